@@ -12,7 +12,7 @@ use Rattle.link_report.specs.declared.ending.Ending.TheVariants.{SampleTooLarge,
 use Rattle.link_report.specs.declared.ending.Ending.TheVariants.{FrameLimit}
 use Rattle.link_report.specs.declared.summary.Summary.{Summary}
 use Rattle.link_report.specs.declared.summary.Summary.TheVariants.{Judged, Sent, Looped, Packed, Played}
-use Rattle.link_report.specs.declared.summary.Summary.TheVariants.{Generated, Compared}
+use Rattle.link_report.specs.declared.summary.Summary.TheVariants.{Generated, Compared, Reported, Shown}
 
 abbrev pub space : List ℕ
 space = 32 ∷ []
@@ -83,6 +83,10 @@ abbrev pub played_lines : ℕ → ℕ → ℕ → List (List ℕ × ℕ)
 played_lines pictures unpaired frames =
     (codes "pictures", pictures) ∷ (codes "unpaired", unpaired) ∷ (codes "frames", frames) ∷ []
 
+abbrev pub reported_lines : ℕ → ℕ → ℕ → List (List ℕ × ℕ)
+reported_lines datagrams packets reports =
+    (codes "datagrams", datagrams) ∷ (codes "packets", packets) ∷ (codes "reports", reports) ∷ []
+
 -- the lines of a command that came to status 0
 unfoldable pub summary_lines : Summary → List (List ℕ × ℕ)
 summary_lines (Judged tally) = tally_lines tally
@@ -95,6 +99,8 @@ summary_lines (Generated frames samples) =
     (codes "frames", frames) ∷ (codes "samples", samples) ∷ []
 summary_lines (Compared frames samples different) =
     (codes "frames", frames) ∷ (codes "samples", samples) ∷ (codes "different", different) ∷ []
+summary_lines (Reported datagrams packets reports) = reported_lines datagrams packets reports
+summary_lines (Shown datagrams) = (codes "datagrams", datagrams) ∷ []
 
 abbrev pub summary_text : Summary → List ℕ
 summary_text summary = lines (summary_lines summary)

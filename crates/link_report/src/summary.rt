@@ -1,6 +1,6 @@
 ghost use Rattle.std.specs.Prelude.{◌≡◌, OnOk, ◌++◌, map};
 ghost use Rattle.std.specs.String.{string_bytes};
-ghost use Rattle.link_report.specs.Report.{named, sent_lines, packed_lines, played_lines};
+ghost use Rattle.link_report.specs.Report.{named, sent_lines, packed_lines, played_lines, reported_lines};
 
 use crate::counts::{Count, push_counts, tally_counts};
 use link_model::Tally;
@@ -48,6 +48,16 @@ pub enum Summary {
         frames: u64,
         samples: u64,
         different: u64,
+    },
+    /// Reports were made on a source, which sent so many of the datagrams: `rtcp`.
+    Reported {
+        datagrams: u64,
+        packets: u64,
+        reports: u64,
+    },
+    /// Datagrams were shown as text: `rtcp-show`.
+    Shown {
+        datagrams: u64,
     },
 }
 
@@ -101,6 +111,12 @@ impl Summary {
                     Count("different", different),
                 ],
             ),
+            Summary::Reported {
+                datagrams,
+                packets,
+                reports,
+            } => push_counts(text, &reported(datagrams, packets, reports)),
+            Summary::Shown { datagrams } => push_counts(text, &[Count("datagrams", datagrams)]),
         }
     }
 }
@@ -132,5 +148,15 @@ fn played(pictures: u64, unpaired: u64, frames: u64) -> [Count; 3]
         Count("pictures", pictures),
         Count("unpaired", unpaired),
         Count("frames", frames),
+    ]
+}
+
+fn reported(datagrams: u64, packets: u64, reports: u64) -> [Count; 3]
+    ensures { map named result ≡ reported_lines datagrams packets reports }
+{
+    [
+        Count("datagrams", datagrams),
+        Count("packets", packets),
+        Count("reports", reports),
     ]
 }

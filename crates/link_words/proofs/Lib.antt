@@ -1,3 +1,4 @@
 mod Digits
 mod Places
 mod Slices
+pub mod Texts

@@ -1,7 +1,8 @@
 -- Which words are a command with its options, and where the first bad word is.
 use Rattle.std.specs.Prelude.{ℕ, zero, suc, ◌+◌, ◌-◌, ◌%◌, List, [], Bool, false, ◌&&◌, ◌||◌, not}
 use Rattle.std.specs.Prelude.{◌==◌, nat_lt, Option, Some, None, if◌then◌else◌, length, slice_index_or}
-use Rattle.std.specs.Prelude.{take, drop, position, unwrap_or, is_some, codes}
+use Rattle.std.specs.Prelude.{take, drop, position, unwrap_or, is_some, codes, ◌≤◌, IsAscii}
+use Rattle.std.specs.List.{list_all}
 use Rattle.std.specs.Str.{bytes_eq}
 use Rattle.vc_types.specs.declared.video.Sampling.{Sampling}
 use Rattle.vc_types.specs.declared.video.Sampling.TheVariants.{S444, S422, S420}
@@ -9,7 +10,7 @@ use Rattle.link_words.specs.Numbers.{number_within}
 use Rattle.link_words.specs.Options.{option_row, names_of, name_in}
 use Rattle.link_words.specs.declared.options.Values.{Values}
 use Rattle.link_words.specs.declared.options.Values.TheVariants.{Number, Optional, Required}
-use Rattle.link_words.specs.declared.options.Values.TheVariants.{Subsampling, Pair, Address}
+use Rattle.link_words.specs.declared.options.Values.TheVariants.{Subsampling, Pair, Address, Text}
 use Rattle.link_words.specs.declared.options.Name.{Name}
 use Rattle.link_words.specs.declared.options.Command.{Command}
 
@@ -46,6 +47,16 @@ slices_written word =
     let cross = cross_of word in
     both (number_within 1 65535 (take cross word)) (number_within 1 65535 (drop (cross + 1) word))
 
+-- 1 to 255 bytes of ASCII
+unfoldable pub is_text : List ℕ → Bool
+is_text word =
+    nat_lt 0 (length word) && nat_lt (length word) 256 && list_all (λ byte. nat_lt byte 128) word
+
+pub record IsText (word : List ℕ) : Type 0 where
+  pub some : 1 ≤ length word
+  pub counted : length word ≤ 255
+  pub ascii : IsAscii word
+
 abbrev pub accepts : Values → List ℕ → Bool
 accepts (Number low high default) word = is_some (number_within low high word)
 accepts (Optional low high) word = is_some (number_within low high word)
@@ -53,6 +64,7 @@ accepts (Required low high) word = is_some (number_within low high word)
 accepts Subsampling word = is_some (sampling_written word)
 accepts Pair word = is_some (slices_written word)
 accepts Address word = nat_lt 0 (length word)
+accepts Text word = is_text word
 
 abbrev pub accepts_as : Option Name → List ℕ → Bool
 accepts_as (Some name) word = accepts (option_row name).1 word

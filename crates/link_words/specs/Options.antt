@@ -4,17 +4,19 @@ use Rattle.std.specs.Prelude.{None, if◌then◌else◌, find, Bool, true, false
 use Rattle.std.specs.Str.{bytes_eq}
 use Rattle.link_words.specs.declared.options.Values.{Values}
 use Rattle.link_words.specs.declared.options.Values.TheVariants.{Number, Optional, Required, Pair}
-use Rattle.link_words.specs.declared.options.Values.TheVariants.{Subsampling, Address}
+use Rattle.link_words.specs.declared.options.Values.TheVariants.{Subsampling, Address, Text}
 use Rattle.link_words.specs.declared.options.Name.{Name}
 use Rattle.link_words.specs.declared.options.Name.TheVariants.{Width, Height, Sampling, Range, Fields}
 use Rattle.link_words.specs.declared.options.Name.TheVariants.{Top, Wavelet, Depth, Slices, Prefix}
 use Rattle.link_words.specs.declared.options.Name.TheVariants.{Scaler, Size, Index, Fit, Ssrc, Seq}
 use Rattle.link_words.specs.declared.options.Name.TheVariants.{Picture, Tick, Pt, Frames, Seed, Count}
 use Rattle.link_words.specs.declared.options.Name.TheVariants.{Check, Window, Workers, Packets, Sessions}
-use Rattle.link_words.specs.declared.options.Name.TheVariants.{To, At}
+use Rattle.link_words.specs.declared.options.Name.TheVariants.{To, At, Every, Reporter, Cname}
+use Rattle.link_words.specs.declared.options.Name.TheVariants.{BySender, Ntp}
 use Rattle.link_words.specs.declared.options.Command.{Command}
 use Rattle.link_words.specs.declared.options.Command.TheVariants.{Decode, Encode, Send, Recv, Loop}
 use Rattle.link_words.specs.declared.options.Command.TheVariants.{Unpack, Pack, Play, Gen}
+use Rattle.link_words.specs.declared.options.Command.TheVariants.{Rtcp, RtcpShow}
 
 abbrev pub command_of : List ℕ → Option Command
 command_of word =
@@ -27,6 +29,8 @@ command_of word =
     else if bytes_eq word (codes "pack") then Some Pack
     else if bytes_eq word (codes "play") then Some Play
     else if bytes_eq word (codes "gen") then Some Gen
+    else if bytes_eq word (codes "rtcp") then Some Rtcp
+    else if bytes_eq word (codes "rtcp-show") then Some RtcpShow
     else None
 
 -- the word of an option and its values: the least and the greatest number, and the default
@@ -60,6 +64,11 @@ option_row Packets = (codes "--packets", Number 1 4294967295 4294967295)
 option_row Sessions = (codes "--sessions", Number 1 4294967295 1)
 option_row To = (codes "--to", Address)
 option_row At = (codes "--at", Address)
+option_row Every = (codes "--every", Number 1 4294967295 100)
+option_row Reporter = (codes "--ssrc", Number 0 4294967295 2)
+option_row Cname = (codes "--cname", Text)
+option_row BySender = (codes "--sender", Number 0 1 0)
+option_row Ntp = (codes "--ntp", Number 0 4294967295 0)
 
 -- how frames are coded and sent
 abbrev pub sender_names : List Name
@@ -80,6 +89,8 @@ names_of Pack = Packets ∷ Size ∷ Ssrc ∷ Pt ∷ Seq ∷ Tick ∷ []
 names_of Play = Packets ∷ []
 names_of Gen =
     Width ∷ Height ∷ Sampling ∷ Range ∷ Fields ∷ Top ∷ Seed ∷ Count ∷ Check ∷ Window ∷ Workers ∷ []
+names_of Rtcp = Every ∷ Reporter ∷ Cname ∷ BySender ∷ Ntp ∷ Packets ∷ []
+names_of RtcpShow = Packets ∷ []
 
 -- the first of some options whose word this is
 abbrev pub name_in : List Name → List ℕ → Option Name

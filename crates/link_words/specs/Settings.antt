@@ -1,6 +1,6 @@
 -- The settings that words of the grammar mean: what is given, and defaults.
 use Rattle.std.specs.Prelude.{ℕ, ◌+◌, ◌-◌, ◌%◌, List, Bool, ◌&&◌, ◌||◌, not, ◌==◌, nat_lt, Option, Some, None}
-use Rattle.std.specs.Prelude.{if◌then◌else◌, length, unwrap_or, ok_or, option_map, Result, Err}
+use Rattle.std.specs.Prelude.{if◌then◌else◌, length, unwrap_or, ok_or, option_map, Result, Err, codes}
 use Rattle.std.specs.Str.{bytes_eq}
 use Rattle.std.specs.List.{list_any}
 use Rattle.vc_types.specs.declared.choice.IndexChoice.{IndexChoice}
@@ -12,7 +12,8 @@ use Rattle.vc_types.specs.Limits.{slices_fit}
 use Rattle.vc_types.specs.Settings.{luma_fits, first_picture_fits, default_across, default_down, can_be_sent}
 use Rattle.vc_types.specs.SenderSettings.{Frames as FramesSent, Generating, Sending}
 use Rattle.link_words.specs.Numbers.{number_within}
-use Rattle.link_words.specs.Grammar.{word_at, first_place, sampling_written, slices_written, first_bad}
+use Rattle.link_words.specs.Grammar.{word_at, first_place, sampling_written, slices_written, is_text}
+use Rattle.link_words.specs.Grammar.{first_bad}
 use Rattle.link_words.specs.Options.{command_of, option_row, names_of, is_required}
 use Rattle.link_words.specs.declared.options.Values.{Values}
 use Rattle.link_words.specs.declared.options.Values.TheVariants as values
@@ -22,10 +23,12 @@ use Rattle.link_words.specs.declared.options.Name.TheVariants.{Top, Wavelet, Dep
 use Rattle.link_words.specs.declared.options.Name.TheVariants.{Scaler, Size, Index, Fit, Ssrc, Seq}
 use Rattle.link_words.specs.declared.options.Name.TheVariants.{Picture, Tick, Pt, Frames, Seed, Count}
 use Rattle.link_words.specs.declared.options.Name.TheVariants.{Check, Window, Workers, Packets, Sessions}
-use Rattle.link_words.specs.declared.options.Name.TheVariants.{To, At}
+use Rattle.link_words.specs.declared.options.Name.TheVariants.{To, At, Every, Reporter, Cname}
+use Rattle.link_words.specs.declared.options.Name.TheVariants.{BySender, Ntp}
 use Rattle.link_words.specs.declared.options.Command.{Command}
 use Rattle.link_words.specs.declared.options.Command.TheVariants.{Decode, Encode, Send, Recv, Loop}
 use Rattle.link_words.specs.declared.options.Command.TheVariants.{Unpack, Pack, Play, Gen}
+use Rattle.link_words.specs.declared.options.Command.TheVariants.{Rtcp, RtcpShow}
 
 -- ---- what is given
 
@@ -55,6 +58,15 @@ given words name = number_meant (option_row name).1 (value_of words name)
 
 abbrev pub is_set : List (List ℕ) → Name → Bool
 is_set words name = given words name == 1
+
+-- the text that is given, or the default
+abbrev pub text_given : List (List ℕ) → Name → (default : List ℕ) → List ℕ
+text_given words name default =
+    if is_text (value_of words name) then value_of words name else default
+
+-- the name of a reporter
+abbrev pub default_name : List ℕ
+default_name = codes "vc2link"
 
 abbrev pub choice_of : List (List ℕ) → IndexChoice
 choice_of words =
@@ -142,6 +154,8 @@ pub data Meaning : Type 0 where
   ToPack : (packets size ssrc pt seq tick : ℕ) → Meaning
   ToPlay : (packets : ℕ) → Meaning
   ToGen : (generator : Generating) (check : Bool) (window workers : ℕ) → Meaning
+  ToRtcp : (every ssrc : ℕ) (name : List ℕ) (is_sender : Bool) (ntp packets : ℕ) → Meaning
+  ToRtcpShow : (packets : ℕ) → Meaning
 
 -- what a command is set to, where its settings go together
 unfoldable pub meaning : Command → List (List ℕ) → Option Meaning
@@ -164,6 +178,10 @@ meaning Pack words =
 meaning Play words = Some (ToPlay (given words Packets))
 meaning Gen words = option_map (λ g.
     ToGen g (is_set words Check) (given words Window) (given words Workers)) (generator words)
+meaning Rtcp words =
+    Some (ToRtcp (given words Every) (given words Reporter) (text_given words Cname default_name)
+    (is_set words BySender) (given words Ntp) (given words Packets))
+meaning RtcpShow words = Some (ToRtcpShow (given words Packets))
 
 abbrev pub lacks : List (List ℕ) → Name → Bool
 lacks words name = is_required (option_row name).1 && not (is_given words name)

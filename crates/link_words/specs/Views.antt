@@ -1,12 +1,14 @@
 -- Settings without their facts.
-use Rattle.std.specs.Prelude.{ℕ, ◌≤◌, IsTrue}
+use Rattle.std.specs.Prelude.{ℕ, ◌≤◌, IsTrue, List}
 use Rattle.vc_types.specs.SenderSettings.{generating_view, sending_view}
 use Rattle.vc_types.specs.Settings.{within}
 use Rattle.link_words.specs.declared.settings.Settings.{Settings}
 use Rattle.link_words.specs.declared.settings.Settings.TheVariants.{Decode, Encode, Send, Recv, Loop}
 use Rattle.link_words.specs.declared.settings.Settings.TheVariants.{Unpack, Pack, Play, Gen}
+use Rattle.link_words.specs.declared.settings.Settings.TheVariants.{Rtcp, RtcpShow}
+use Rattle.link_words.specs.Grammar.{IsText}
 use Rattle.link_words.specs.Settings.{Meaning, ToDecode, ToEncode, ToSend, ToRecv}
-use Rattle.link_words.specs.Settings.{ToLoop, ToUnpack, ToPack, ToPlay, ToGen}
+use Rattle.link_words.specs.Settings.{ToLoop, ToUnpack, ToPack, ToPlay, ToGen, ToRtcp, ToRtcpShow}
 
 abbrev pub meaning_view : Settings → Meaning
 meaning_view (Decode window workers packets) = ToDecode window workers packets
@@ -21,6 +23,9 @@ meaning_view (Pack packets size ssrc pt seq tick) = ToPack packets size ssrc pt 
 meaning_view (Play packets) = ToPlay packets
 meaning_view (Gen generator check window workers) =
     ToGen (generating_view generator) check window workers
+meaning_view (Rtcp every ssrc name is_sender ntp packets) =
+    ToRtcp every ssrc name.now is_sender ntp packets
+meaning_view (RtcpShow packets) = ToRtcpShow packets
 
 -- of the pictures that are open at a time there are 2 to 8
 abbrev pub IsWindow : ℕ → Type 0
@@ -42,3 +47,12 @@ pub record ArePackRanges (size pt : ℕ) : Type 0 where
 abbrev pub CanPack : Settings → Type 0
 CanPack (Pack packets size ssrc pt seq tick) = ArePackRanges size pt
 CanPack other = Unit {0}
+
+-- there is a report behind some packet, and a reporter has a name
+pub record AreReportRanges (every : ℕ) (name : List ℕ) : Type 0 where
+  pub some : 1 ≤ every
+  pub is_name : IsText name
+
+abbrev pub CanReport : Settings → Type 0
+CanReport (Rtcp every ssrc name is_sender ntp packets) = AreReportRanges every name.now
+CanReport other = Unit {0}

@@ -1,6 +1,9 @@
 ghost use Rattle.std.specs.Prelude.{◌≡◌, ◌<◌, ◌≤◌, ◌%◌, ◌-◌, length, nat_lt, is_some, position, IfSome, ◌==◌};
+ghost use Rattle.std.specs.Prelude.{IsTrue, IsAscii};
+ghost use Rattle.std.specs.List.{list_all};
 ghost use Rattle.link_words.specs.Options.{option_row, names_of, name_in};
-ghost use Rattle.link_words.specs.Grammar.{word_at, cross_of, sampling_written, slices_written, accepts};
+ghost use Rattle.link_words.specs.Grammar.{word_at, cross_of, sampling_written, slices_written};
+ghost use Rattle.link_words.specs.Grammar.{is_text, accepts, IsText};
 ghost use Rattle.link_words.specs.Grammar.{accepts_as, is_choice, excludes, excluded_at};
 ghost use Rattle.link_words.specs.Grammar.{is_given_before, option_at, word_fits, first_bad};
 
@@ -55,6 +58,23 @@ pub(crate) fn slices_written(word: &[u8]) -> Option<(u32, u32)>
     Some((across, down))
 }
 
+#[tactic(auto, using(crate::proofs::Texts::all_ascii))]
+fn are_ascii(bytes: &[u8]) -> bool
+    ensures value { result ≡ list_all (λ byte. nat_lt byte 128) bytes.now }
+    ensures ascii { IsTrue result → IsAscii bytes.now }
+{
+    bytes.iter().all(|byte| *byte < 128)
+}
+
+// 1 to 255 bytes of ASCII.
+#[tactic(auto, unfolding(crate::specs::Grammar::is_text))]
+pub(crate) fn is_text(word: &str) -> bool
+    ensures value { result ≡ is_text word.now }
+    ensures text { IsTrue result → IsText word.now }
+{
+    !word.is_empty() && word.len() < 256 && are_ascii(word.as_bytes())
+}
+
 fn accepts(values: Values, word: &str) -> bool
     ensures { result ≡ accepts values word.now }
 {
@@ -64,6 +84,7 @@ fn accepts(values: Values, word: &str) -> bool
         Values::Subsampling => sampling_written(word).is_some(),
         Values::Pair => slices_written(word.as_bytes()).is_some(),
         Values::Address => !word.is_empty(),
+        Values::Text => is_text(word),
     }
 }
 

@@ -111,6 +111,8 @@ fn word_of(command: Command) -> &'static str
         Command::Pack => "pack",
         Command::Play => "play",
         Command::Gen => "gen",
+        Command::Rtcp => "rtcp",
+        Command::RtcpShow => "rtcp-show",
     }
 }
 
@@ -158,6 +160,7 @@ fn push_values(page: &mut String, values: Values) -> Result<(), NoMemory> {
             "two of 1 to 65535 with x between; 16 by 8 samples each by default",
         ),
         Values::Address => push_words(page, "an address, required"),
+        Values::Text => push_words(page, "1 to 255 bytes of ASCII, vc2link by default"),
     }
 }
 

@@ -1,10 +1,11 @@
 ghost use Rattle.std.specs.Prelude.{◌≡◌, ◌<◌, ◌≤◌, length, IsTrue};
 ghost use Rattle.vc_types.specs.Settings.{choice_fits};
+ghost use Rattle.link_words.specs.Grammar.{IsText};
 ghost use Rattle.link_words.specs.Options.{option_row, is_required, HasDefault, IsInRange};
 ghost use Rattle.link_words.specs.Settings.{stands_at, place_of, is_given, value_of};
-ghost use Rattle.link_words.specs.Settings.{number_meant, given, is_set, choice_of, lacks};
+ghost use Rattle.link_words.specs.Settings.{number_meant, given, is_set, text_given, choice_of, lacks};
 
-use crate::grammar::word_at;
+use crate::grammar::{is_text, word_at};
 use crate::numbers::number_within;
 use crate::options::{Name, Values, option_row};
 use vc_types::{IndexChoice, Words};
@@ -81,6 +82,17 @@ pub(crate) fn is_set(words: &Words, name: Name) -> bool
     ensures { result ≡ is_set words.now name }
 {
     given(words, name) == 1
+}
+
+// The text that is given, or the default.
+pub(crate) fn text_given<'a>(words: &'a Words, name: Name, default: &'static str) -> &'a str
+    requires some { 0 < length words.now }
+    requires default { IsText default.now }
+    ensures value { result.now ≡ text_given words.now name default.now }
+    ensures text { IsText result.now }
+{
+    let value = value_of(words, name);
+    if is_text(value) { value } else { default }
 }
 
 pub(crate) fn choice_of(words: &Words) -> IndexChoice

@@ -1,7 +1,7 @@
 use crate::options::{Command, Name};
 
 /// The commands in the order of the page, each with what it reads and writes.
-pub(crate) const COMMANDS: [(Command, &str); 9] = [
+pub(crate) const COMMANDS: [(Command, &str); 11] = [
     (
         Command::Encode,
         "raw frames from the input; a capture of the datagrams that carry them to the output",
@@ -38,10 +38,18 @@ pub(crate) const COMMANDS: [(Command, &str); 9] = [
         Command::Gen,
         "nothing from the input; generated raw frames to the output, or with --check 1 nothing",
     ),
+    (
+        Command::Rtcp,
+        "a capture from the input; a capture of the RTCP reports on its first source to the output",
+    ),
+    (
+        Command::RtcpShow,
+        "a capture of RTCP reports from the input; each of them as lines of text to the output",
+    ),
 ];
 
 /// The options in the order of the page, each with what it means.
-pub(crate) const NAMES: [(Name, &str); 29] = [
+pub(crate) const NAMES: [(Name, &str); 34] = [
     (Name::Width, "samples in a row of luma"),
     (Name::Height, "rows of luma in a frame"),
     (Name::Sampling, "4:4:4, 4:2:2 or 4:2:0"),
@@ -100,5 +108,19 @@ pub(crate) const NAMES: [(Name, &str); 29] = [
     (
         Name::Check,
         "1: the frames are encoded and decoded, and the samples that differ are counted",
+    ),
+    (
+        Name::Every,
+        "packets of the source from one report to the next",
+    ),
+    (Name::Reporter, "the reporter's number in RTP"),
+    (Name::Cname, "the name that a report gives"),
+    (
+        Name::BySender,
+        "1: sender reports, as the source itself would write them",
+    ),
+    (
+        Name::Ntp,
+        "the time in a sender report, in seconds since 1900",
     ),
 ];

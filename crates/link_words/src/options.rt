@@ -2,11 +2,11 @@ ghost use Rattle.std.specs.Prelude.{◌≡◌};
 ghost use Rattle.link_words.specs.Options.{command_of, names_of, option_row, name_in, is_required};
 
 use Name::{
-    At, Check, Count, Depth, Fields, Fit, Frames, Height, Index, Packets, Picture, Prefix, Pt,
-    Range, Sampling, Scaler, Seed, Seq, Sessions, Size, Slices, Ssrc, Tick, To, Top, Wavelet,
-    Width, Window, Workers,
+    At, BySender, Check, Cname, Count, Depth, Every, Fields, Fit, Frames, Height, Index, Ntp,
+    Packets, Picture, Prefix, Pt, Range, Reporter, Sampling, Scaler, Seed, Seq, Sessions, Size,
+    Slices, Ssrc, Tick, To, Top, Wavelet, Width, Window, Workers,
 };
-use Values::{Address, Number, Optional, Pair, Required, Subsampling};
+use Values::{Address, Number, Optional, Pair, Required, Subsampling, Text};
 
 /// The first word.
 #[derive(Clone, Copy)]
@@ -20,9 +20,12 @@ pub(crate) enum Command {
     Pack,
     Play,
     Gen,
+    Rtcp,
+    RtcpShow,
 }
 
-/// The options of all commands. `--frames` is two: how many are sent, and how many are generated.
+/// The options of all commands. `--frames` is two: how many are sent, and how many are generated. So is `--ssrc`:
+/// a sender's number, and a reporter's.
 #[derive(Clone, Copy)]
 pub(crate) enum Name {
     Width,
@@ -54,6 +57,11 @@ pub(crate) enum Name {
     Sessions,
     To,
     At,
+    Every,
+    Reporter,
+    Cname,
+    BySender,
+    Ntp,
 }
 
 /// Which words may stand behind a name.
@@ -70,6 +78,8 @@ pub(crate) enum Values {
     Pair,
     // Any word that is not empty; it has to be given.
     Address,
+    // A word of 1 to 255 bytes, all of them ASCII.
+    Text,
 }
 
 pub(crate) fn command_of(word: &str) -> Option<Command>
@@ -85,6 +95,8 @@ pub(crate) fn command_of(word: &str) -> Option<Command>
         "pack" => Some(Command::Pack),
         "play" => Some(Command::Play),
         "gen" => Some(Command::Gen),
+        "rtcp" => Some(Command::Rtcp),
+        "rtcp-show" => Some(Command::RtcpShow),
         _ => None,
     }
 }
@@ -123,6 +135,11 @@ pub(crate) fn option_row(name: Name) -> (&'static str, Values)
         Sessions => ("--sessions", Number(1, 4294967295, 1)),
         To => ("--to", Address),
         At => ("--at", Address),
+        Every => ("--every", Number(1, 4294967295, 100)),
+        Reporter => ("--ssrc", Number(0, 4294967295, 2)),
+        Cname => ("--cname", Text),
+        BySender => ("--sender", Number(0, 1, 0)),
+        Ntp => ("--ntp", Number(0, 4294967295, 0)),
     }
 }
 
@@ -150,6 +167,8 @@ pub(crate) fn names_of(command: Command) -> &'static [Name]
         Command::Gen => &[
             Width, Height, Sampling, Range, Fields, Top, Seed, Count, Check, Window, Workers,
         ],
+        Command::Rtcp => &[Every, Reporter, Cname, BySender, Ntp, Packets],
+        Command::RtcpShow => &[Packets],
     }
 }
 

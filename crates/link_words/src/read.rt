@@ -2,10 +2,10 @@ ghost use Rattle.std.specs.Prelude.{◌≡◌, ◌<◌, length, IfOk, IfSome};
 ghost use Rattle.std.specs.Option.{option_map};
 ghost use Rattle.std.specs.Result.{result_map_both};
 ghost use Rattle.link_words.specs.Settings.{meaning, lacks_name, settings_of};
-ghost use Rattle.link_words.specs.Views.{meaning_view, CanPack, HasWindow};
+ghost use Rattle.link_words.specs.Views.{meaning_view, CanPack, CanReport, HasWindow};
 
 use crate::grammar::first_bad;
-use crate::lookup::{given, is_set, lacks, value_of};
+use crate::lookup::{given, is_set, lacks, text_given, value_of};
 use crate::options::{Command, Name, command_of, names_of};
 use crate::sender::{generator, sender};
 use crate::settings::Settings;
@@ -19,6 +19,7 @@ fn settings<'a>(command: Command, words: &'a Words) -> Option<Settings<'a>>
     ensures value { option_map meaning_view result ≡ meaning command words.now }
     ensures window { IfSome result HasWindow }
     ensures packing { IfSome result CanPack }
+    ensures reporting { IfSome result CanReport }
 {
     let window = given(words, Name::Window) as u8;
     let workers = given(words, Name::Workers);
@@ -73,6 +74,15 @@ fn settings<'a>(command: Command, words: &'a Words) -> Option<Settings<'a>>
             window,
             workers,
         },
+        Command::Rtcp => Settings::Rtcp {
+            every: given(words, Name::Every),
+            ssrc: given(words, Name::Reporter),
+            name: text_given(words, Name::Cname, "vc2link"),
+            is_sender: is_set(words, Name::BySender),
+            ntp: given(words, Name::Ntp),
+            packets,
+        },
+        Command::RtcpShow => Settings::RtcpShow { packets },
     })
 }
 
@@ -93,6 +103,7 @@ pub fn read_words<'a>(words: &'a Words) -> Result<Settings<'a>, Usage>
         ≡ result_map_both meaning_view (λ usage. usage.place) result }
     ensures window { IfOk result HasWindow }
     ensures packing { IfOk result CanPack }
+    ensures reporting { IfOk result CanReport }
 {
     if words.len() == 0 {
         return Err(Usage { place: 0 });

@@ -1,6 +1,7 @@
 use vc_types::{GenSettings, SendSettings};
 
-/// What the words of a command line say: a command and its options, defaults filled in. An address is a word.
+/// What the words of a command line say: a command and its options, defaults filled in. An address is a word, and
+/// so is a reporter's name.
 #[derive(Clone, Copy)]
 pub enum Settings<'a> {
     Decode {
@@ -52,5 +53,16 @@ pub enum Settings<'a> {
         check: bool,
         window: u8,
         workers: u32,
+    },
+    Rtcp {
+        every: u32,
+        ssrc: u32,
+        name: &'a str,
+        is_sender: bool,
+        ntp: u32,
+        packets: u32,
+    },
+    RtcpShow {
+        packets: u32,
     },
 }
