@@ -1,7 +1,7 @@
 use crate::words::spread;
 use crate::{
     bits, codes, datagrams, fields, headers, lines, narrow_planes, parameters, places, planes,
-    ports, quantisers, sizes, slices, wires,
+    ports, quantisers, reports, sizes, slices, wires,
 };
 use std::alloc::Global;
 use worked_common::{Bad, Part};
@@ -84,6 +84,24 @@ fn add_of_ports(
         "written" => ports::written(alloc, parts, given, into),
         "memory-wire" => wires::memory_wire(alloc, parts, given, into),
         "plain-wire" => wires::plain_wire(alloc, parts, given, into),
+        _ => add_of_reports(alloc, parts, kind, given, into),
+    }
+}
+
+fn add_of_reports(
+    alloc: Global,
+    parts: &[Part],
+    kind: &str,
+    given: &str,
+    into: &mut String,
+) -> Result<(), Bad> {
+    match kind {
+        "track" => reports::track(alloc, given, into),
+        "track-steps" => reports::track_steps(alloc, given, into),
+        "rr-written" => reports::rr_written(alloc, parts, given, into),
+        "sr-written" => reports::sr_written(alloc, parts, given, into),
+        "compound" => reports::compound(alloc, parts, given, into),
+        "compound-cuts" => reports::compound_cuts(alloc, parts, given, into),
         _ => add_of_quantisers(alloc, kind, given, into),
     }
 }

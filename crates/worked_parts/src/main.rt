@@ -17,6 +17,7 @@ mod planes;
 mod plans;
 mod ports;
 mod quantisers;
+mod reports;
 mod sizes;
 mod slices;
 mod wires;

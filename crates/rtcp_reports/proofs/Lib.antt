@@ -1,0 +1,13 @@
+pub mod Appending
+pub mod Arrivals
+pub mod Blocks
+pub mod Compounds
+pub mod Counting
+pub mod Judging
+pub mod Losses
+pub mod PacketChains
+pub mod Packets
+pub mod Refused
+pub mod Rooms
+pub mod Testing
+pub mod WrittenCompounds

@@ -1,0 +1,4 @@
+pub mod Rtcp
+pub mod Tracks
+pub mod Views
+pub mod Reports
