@@ -1,0 +1,12 @@
+pub mod Due
+pub mod Pieces
+pub mod Writings
+pub mod WritingLaws
+pub mod Answering
+pub mod Sources
+pub mod SourceLaws
+pub mod Reporters
+pub mod ReporterLaws
+pub mod Reporting
+pub mod Showing
+pub mod ShowingLaws

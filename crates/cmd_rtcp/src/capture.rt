@@ -1,0 +1,76 @@
+ghost use Rattle.std.specs.Prelude.{◌≡◌, [], length};
+ghost use Rattle.link_hearing.specs.Hearing.{CanGoOn};
+ghost use Rattle.vc_ports.specs.Changes.{input_of, output_of};
+ghost use Rattle.cmd_rtcp.specs.Answering.{AnswersCapture};
+ghost use Rattle.cmd_rtcp.specs.Writings.{CanHear, Concludes, PutsCapture, writing_state};
+
+use crate::scribe::Scribe;
+use crate::writing::Writing;
+use link_hearing::{has_broken, hear_capture};
+use link_report::Ending;
+use std::alloc::Global;
+use vc_ports::{Sink, Source};
+
+/// Has a scribe hear the datagrams of a capture's entries, at most so many, and writes what it says; answers
+/// how many there were. Where the input fails, or ends within an entry, or has one byte more than so many
+/// entries, what is due of those that were heard is written all the same.
+pub(crate) fn take_capture<I: Source, O: Sink, S: Scribe>(
+    alloc: Global,
+    packets: u32,
+    input: &mut I,
+    output: &mut O,
+    scribe: &mut S,
+) -> Result<u64, Ending>
+    requires { S.has_heard scribe.old scribe.old [] }
+    ensures { AnswersCapture (S.due scribe.old).in_all
+        (λ count heard. (count ≡ length heard) × S.has_ended scribe.old scribe.new heard) packets result
+        (input_of I.left I.faults input.old input.new)
+        (output_of O.held O.faults output.old output.new) }
+{
+    let mut writing = Writing::new(scribe, output);
+    let heard = hear_datagrams(alloc, packets, input, &mut writing);
+    conclude(&mut writing, heard)
+}
+
+// Has a scribe that has heard nothing hear them.
+fn hear_datagrams<I: Source, O: Sink, S: Scribe>(
+    alloc: Global,
+    packets: u32,
+    input: &mut I,
+    writing: &mut Writing<S, O>,
+) -> Result<(), Ending>
+    requires none { writing.old.datagrams ≡ 0 }
+    requires new { S.has_heard writing.old.scribe.now writing.old.scribe.now [] }
+    ensures borrows_scribe { writing.new.scribe.ghost_name ≡ writing.old.scribe.ghost_name }
+    ensures borrows_output { writing.new.output.ghost_name ≡ writing.old.output.ghost_name }
+    ensures ready { CanGoOn result → CanHear S.has_heard (writing_state O.held O.faults writing.new) }
+    ensures puts { PutsCapture S.has_heard S.due packets (input_of I.left I.faults input.old input.new)
+        (writing_state O.held O.faults writing.old) (writing_state O.held O.faults writing.new) result }
+{
+    hear_capture(alloc, packets, input, writing)
+}
+
+// Has it hear the end, unless it broke off, and says what hearing came to.
+fn conclude<O: Sink, S: Scribe>(
+    writing: &mut Writing<S, O>,
+    heard: Result<(), Ending>,
+) -> Result<u64, Ending>
+    requires { CanGoOn heard → CanHear S.has_heard (writing_state O.held O.faults writing.old) }
+    ensures borrows_scribe { writing.new.scribe.ghost_name ≡ writing.old.scribe.ghost_name }
+    ensures borrows_output { writing.new.output.ghost_name ≡ writing.old.output.ghost_name }
+    ensures concludes { Concludes S.has_heard S.has_ended S.due
+        (writing_state O.held O.faults writing.old) (writing_state O.held O.faults writing.new)
+        heard result }
+{
+    match heard {
+        Err(ending) if has_broken(&ending) => Err(ending),
+        Err(ending) => match writing.end() {
+            Ok(()) => Err(ending),
+            Err(fault) => Err(Ending::from(fault)),
+        },
+        Ok(()) => match writing.end() {
+            Ok(()) => Ok(writing.datagrams),
+            Err(fault) => Err(Ending::from(fault)),
+        },
+    }
+}

@@ -1,0 +1,17 @@
+//! `rtcp` and `rtcp-show`: what is to be reported on the source of a capture's datagrams (RFC 3550, 6.4), and
+//! reports shown as text.
+#![tactic(auto)]
+
+mod capture;
+mod command;
+mod piece;
+mod reporter;
+mod scribe;
+mod settings;
+mod shower;
+mod source;
+mod text;
+mod writing;
+
+pub use command::{rtcp, rtcp_show};
+pub use settings::ReportSettings;

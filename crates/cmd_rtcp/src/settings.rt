@@ -1,0 +1,14 @@
+/// How the source of a capture's datagrams is reported on.
+#[derive(Clone, Copy)]
+pub struct ReportSettings<'a> {
+    /// Behind how many packets of the source there is a report, at least 1.
+    pub every: u32,
+    /// Who reports, where it isn't the source itself.
+    pub ssrc: u32,
+    /// The name of who reports (CNAME), 1 to 255 bytes of ASCII.
+    pub cname: &'a str,
+    /// Whether the source itself reports.
+    pub sender: bool,
+    /// The NTP time that the source reports, in seconds: the upper half of it.
+    pub ntp: u32,
+}
