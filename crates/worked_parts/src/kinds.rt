@@ -1,7 +1,7 @@
 use crate::words::spread;
 use crate::{
-    bits, codes, datagrams, fields, headers, lines, narrow_planes, parameters, places, planes,
-    ports, quantisers, reports, sizes, slices, wires,
+    bits, codes, datagrams, fields, headers, lines, low_delay, narrow_planes, parameters, places,
+    planes, ports, quantisers, reports, sizes, slices, wires,
 };
 use std::alloc::Global;
 use worked_common::{Bad, Part};
@@ -52,6 +52,8 @@ fn add_of_parts(
         "parameters-cuts" => parameters::parameters_cuts(alloc, parts, given, into),
         "parameters-written" => parameters::parameters_written(alloc, parts, given, into),
         "plan-planes" => parameters::plan_planes(alloc, parts, given, into),
+        "low-parameters" => low_delay::low_parameters(alloc, parts, given, into),
+        "low-picture" => low_delay::low_picture(alloc, parts, given, into),
         "rtp" => datagrams::rtp(alloc, parts, given, into),
         "rtp-cuts" => datagrams::rtp_cuts(alloc, parts, given, into),
         "rtp-written" => datagrams::rtp_written(alloc, given, into),

@@ -9,6 +9,7 @@ mod file;
 mod headers;
 mod kinds;
 mod lines;
+mod low_delay;
 mod named;
 mod narrow_planes;
 mod parameters;

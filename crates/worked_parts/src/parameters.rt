@@ -37,7 +37,13 @@ pub(crate) fn plan_of(alloc: Global, parts: &[Part], given: &str) -> Result<Plan
     }
 }
 
-fn add_plan(alloc: Global, plan: &Plan, used: usize, into: &mut String) -> Result<(), Bad> {
+/// What is read of transform parameters.
+pub(crate) fn add_plan(
+    alloc: Global,
+    plan: &Plan,
+    used: usize,
+    into: &mut String,
+) -> Result<(), Bad> {
     add_word(into, "wavelet")?;
     add_number(alloc, into, i128::from(plan.wavelet))?;
     add_number(alloc, into, i128::from(plan.wavelet_ho))?;
@@ -60,7 +66,12 @@ fn add_plan(alloc: Global, plan: &Plan, used: usize, into: &mut String) -> Resul
     add_number(alloc, into, used as i128)
 }
 
-fn add_refusal(alloc: Global, refusal: ParamsRefusal, into: &mut String) -> Result<(), Bad> {
+/// Why they are refused.
+pub(crate) fn add_refusal(
+    alloc: Global,
+    refusal: ParamsRefusal,
+    into: &mut String,
+) -> Result<(), Bad> {
     let word = format!(in alloc; "{refusal:?}")?;
     add_word(into, word.as_str())
 }

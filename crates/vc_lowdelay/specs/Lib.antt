@@ -1,0 +1,10 @@
+pub mod LowDelay
+pub mod OfPlan
+pub mod Refusals
+pub mod Coded
+pub mod Bands
+pub mod Placed
+pub mod Grown
+pub mod OfBands
+pub mod Components
+pub mod Decoded

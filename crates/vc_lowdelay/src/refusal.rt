@@ -1,0 +1,51 @@
+ghost use Rattle.std.specs.Prelude.{◌≡◌};
+ghost use Rattle.vc_lowdelay.specs.declared.refusal.LowRefusal.TheVariants as refusals;
+
+use std::alloc::{AllocError, AllocFailed};
+use vc_types::NoMemory;
+
+/// Why a low-delay picture isn't decoded.
+#[derive(Clone, Copy, Debug, PartialEq, Eq)]
+pub enum LowRefusal {
+    /// The bytes end before the last slice does.
+    Short,
+    /// A coefficient has a magnitude of 2^60 or more, before its prediction or with it.
+    CoefficientRange,
+    NoMemory,
+}
+
+/// A coefficient has a magnitude of 2^60 or more.
+#[derive(Clone, Copy)]
+pub(crate) struct LargeValue;
+
+impl From<AllocError> for LowRefusal {
+    ghost from_gives = { λ _ e. e ≡ refusals.NoMemory };
+
+    fn from(_: AllocError) -> Self {
+        LowRefusal::NoMemory
+    }
+}
+
+impl<T: Drop> From<AllocFailed<T>> for LowRefusal {
+    ghost from_gives = { λ _ e. e ≡ refusals.NoMemory };
+
+    fn from(_: AllocFailed<T>) -> Self {
+        LowRefusal::NoMemory
+    }
+}
+
+impl From<NoMemory> for LowRefusal {
+    ghost from_gives = { λ _ e. e ≡ refusals.NoMemory };
+
+    fn from(_: NoMemory) -> Self {
+        LowRefusal::NoMemory
+    }
+}
+
+impl From<LargeValue> for LowRefusal {
+    ghost from_gives = { λ _ e. e ≡ refusals.CoefficientRange };
+
+    fn from(_: LargeValue) -> Self {
+        LowRefusal::CoefficientRange
+    }
+}
