@@ -14,6 +14,7 @@ mod Heading
 pub mod Following
 pub mod SliceRuns
 pub mod PictureParts
+pub mod LowParts
 pub mod Showing
 pub mod PlayCompletes
 pub mod PlayBringing

@@ -1,12 +1,11 @@
 -- What units bring, a unit more.
-use Rattle.std.proofs.Common.{◌≡◌, ℕ, Bool, true, false, List, [], ◌∷◌, ◌++◌, Option, Some, None, refl, sym, ap, ◌∙◌, append-nil, arith}
-use Rattle.std.specs.Prelude.{option_and_then}
+use Rattle.std.proofs.Common.{◌≡◌, ℕ, Bool, true, false, List, [], ◌∷◌, ◌++◌, Option, Some, None, refl, sym, ap, ◌∙◌, append-nil}
+use Rattle.std.specs.Prelude.{option_and_then, if◌then◌else◌, ◌==◌, ◌||◌}
 use Rattle.std.specs.Option.{option_map}
-use Rattle.std.proofs.lemmas.Grind.{common_steps}
-use Rattle.vc_types.specs.SequenceHeader.{coded_header}
 use Rattle.vc_types.specs.DataUnits.{DataUnit}
+use Rattle.vc_types.specs.ParseCodes.{header_code, low_delay_code, picture_code}
 use Rattle.vc_ports.proofs.Given.{some_is}
-use Rattle.cmd_stream.specs.Stream.{Stream, StreamPicture, StreamSoFar, at_start, with_header, with_picture, picture_in, shows, takes, all_taken, units_taken, after_unit, played}
+use Rattle.cmd_stream.specs.Stream.{Stream, StreamPicture, StreamSoFar, at_start, code_of, with_header, with_picture, picture_in, shows, takes, all_taken, units_taken, after_unit, played}
 use Rattle.cmd_stream.specs.Taking.{BringsDue}
 use Rattle.cmd_stream.proofs.PlayBringing.{played-header}
 use Rattle.cmd_stream.proofs.Showing.{played-more}
@@ -44,21 +43,32 @@ Grows old new = (more : List ℕ) × (played new ≡ played old ++ more)
 abbrev nested : Option Stream → Option (Option Stream)
 nested stream = option_map (λ next. Some next) stream
 
-header-grows : (stream new found : Option Stream) (u : DataUnit) → with_header stream (coded_header u.body) ≡ found → nested found ≡ Some new → Grows stream new
+header-grows : (stream new found : Option Stream) (u : DataUnit) → with_header stream u.body ≡ found → nested found ≡ Some new → Grows stream new
 header-grows stream new None u is e = absurd cc
 header-grows stream new (Some next) u is e =
     let same = some_is (Some next) new e in
-    ([], ap played (sym same) ∙ played-header stream (coded_header u.body) next is ∙ sym (append-nil (played stream)))
+    ([], ap played (sym same) ∙ played-header stream u.body next is ∙ sym (append-nil (played stream)))
 
 picture-grows : (s : Stream) (new : Option Stream) (p : Option StreamPicture) → nested (option_map (with_picture s) p) ≡ Some new → Grows (Some s) new
 picture-grows s new None e = absurd cc
 picture-grows s new (Some p) e = (_, ap played (sym (some_is (Some (with_picture s p)) new e)) ∙ played-more s p)
 
-shown-grows : (stream new : Option Stream) (u : DataUnit) → nested (option_and_then (shows u.body) stream) ≡ Some new → Grows stream new
+coded-grows : (s : Stream) (new : Option Stream) (p : Option StreamPicture) (same : Bool) → nested (if same then option_map (with_picture s) p else None) ≡ Some new → Grows (Some s) new
+coded-grows s new p true e = picture-grows s new p e
+coded-grows s new p false e = absurd cc
+
+shown-grows : (stream new : Option Stream) (u : DataUnit) → nested (option_and_then (shows u) stream) ≡ Some new → Grows stream new
 shown-grows None new u e = absurd cc
-shown-grows (Some s) new u e = picture-grows s new (picture_in s.sequence u.body) e
+shown-grows (Some s) new u e = coded-grows s new (picture_in s.coding s.sequence u.body) (u.code == code_of s.coding) e
 
 -- a unit that is taken, and what is due for it
 pub taken-grows : (stream new : Option Stream) (u : DataUnit) → takes stream u ≡ Some new → BringsDue stream u
 unfolding takes
-taken-grows stream new u e = grind (arith, common_steps, header-grows, shown-grows, some_is)
+taken-grows stream new u e =
+    let grows = by_tests (u.code == header_code) (u.code == picture_code || u.code == low_delay_code) e in
+    record { next = new; due = grows.0; taken = e; grows = grows.1 }
+  where
+    by_tests : (header picture : Bool) → (if header then nested (with_header stream u.body) else if picture then nested (option_and_then (shows u) stream) else Some stream) ≡ Some new → Grows stream new
+    by_tests true picture e = header-grows stream new (with_header stream u.body) u refl e
+    by_tests false true e = shown-grows stream new u e
+    by_tests false false e = ([], ap played (sym (some_is stream new e)) ∙ sym (append-nil (played stream)))

@@ -4,6 +4,7 @@ use Rattle.std.specs.Option.{option_map}
 use Rattle.vc_types.specs.FieldPairs.{woven}
 use Rattle.vc_types.specs.Planes.{Planes}
 use Rattle.vc_types.specs.SequenceHeader.{Sequence}
+use Rattle.cmd_stream.specs.declared.coding.Coding.{Coding}
 use Rattle.cmd_stream.specs.Stream.{StreamSoFar, Stream, StreamPicture, is_pair, stream_frames}
 
 -- an even-numbered field waits for the very next picture
@@ -27,6 +28,7 @@ new_frames sequence waiting p =
 
 -- what is kept of a stream
 pub record PlayState : Type 0 where
+  pub coding : Coding
   pub sequence : Sequence
   pub waiting : Option StreamPicture
   pub pictures : ℕ
@@ -35,6 +37,7 @@ pub record PlayState : Type 0 where
 -- a picture more
 abbrev pub shown : PlayState → StreamPicture → PlayState
 shown k p = record {
+  coding = k.coding;
   sequence = k.sequence;
   waiting = if k.sequence.fields then next_waiting k.waiting p else k.waiting;
   pictures = k.pictures + 1;
@@ -50,6 +53,7 @@ waiting_in [] = None
 -- what is kept of this stream
 abbrev pub stream_state : Stream → PlayState
 stream_state s = record {
+  coding = s.coding;
   sequence = s.sequence;
   waiting = if s.sequence.fields then waiting_in s.pictures else None;
   pictures = length s.pictures;

@@ -18,6 +18,7 @@ picture_of p = record { number = p.number; planes = planes_in p.planes }
 
 abbrev pub playback_state : Playback → PlayState
 playback_state s = record {
+  coding = s.coding;
   sequence = sequence_of s.header;
   waiting = option_map picture_of s.waiting;
   pictures = s.pictures;

@@ -1,63 +1,113 @@
--- What an elementary stream brings, unit by unit (ST 2042-1, sequence): headers of one value, and
--- pictures, each decoded by itself; and the frames that its pictures make.
-use Rattle.std.specs.Prelude.{ℕ, ◌+◌, ◌-◌, ◌*◌, ◌%◌, Bool, true, false, ◌&&◌, ◌==◌, nat_lt}
+-- What an elementary stream brings, unit by unit (ST 2042-1, sequence): headers of one profile and
+-- one value, and pictures, each decoded by itself; and the frames that its pictures make.
+use Rattle.std.specs.Prelude.{ℕ, ◌+◌, ◌-◌, ◌*◌, ◌%◌, Bool, true, false, ◌&&◌, ◌||◌, ◌==◌, nat_lt}
 use Rattle.std.specs.Prelude.{if◌then◌else◌, List, [], ◌∷◌, ◌++◌, length, map, drop, Option}
-use Rattle.std.specs.Prelude.{Some, None, Result, Ok, Err, option_and_then}
-use Rattle.std.specs.Option.{option_map, option_map_or}
+use Rattle.std.specs.Prelude.{Some, None, option_and_then}
+use Rattle.std.specs.Option.{option_map, option_map_or, option_or}
+use Rattle.std.specs.Result.{result_ok}
 use Rattle.std.specs.List.{flat_map}
+use Rattle.cmd_stream.specs.declared.coding.Coding.{Coding}
+use Rattle.cmd_stream.specs.declared.coding.Coding.TheVariants.{HighQuality, LowDelay}
 use Rattle.vc_types.specs.RawFrames.{is_wide, frame_bytes}
 use Rattle.vc_types.specs.FieldPairs.{woven}
 use Rattle.byteorder.specs.Endian.{big_number}
 use Rattle.vc_types.specs.ParseCodes.{header_code, low_delay_code, picture_code}
 use Rattle.vc_types.specs.Planes.{Planes, decoded_planes}
 use Rattle.vc_types.specs.SameValues.{same_sequence}
-use Rattle.vc_types.specs.SequenceHeader.{Sequence, coded_header, picture_shape}
-use Rattle.vc_types.specs.declared.refusal.HeaderRefusal.{HeaderRefusal}
+use Rattle.vc_types.specs.SequenceHeader.{Sequence, coded_header_of, picture_shape}
+use Rattle.vc_types.specs.SequenceHeader.{high_quality_profile, low_delay_profile}
 use Rattle.vc_types.specs.DataUnits.{DataUnit, unit_length}
+use Rattle.vc_lowdelay.specs.LowDelay.{decoded_low_planes}
 
--- ---- units
+-- ---- how pictures are coded: in high quality or in low delay
+
+-- the profile of the headers
+abbrev pub profile_of : Coding → ℕ
+profile_of HighQuality = high_quality_profile
+profile_of LowDelay = low_delay_profile
+
+-- the parse code of the pictures
+abbrev pub code_of : Coding → ℕ
+code_of HighQuality = picture_code
+code_of LowDelay = low_delay_code
+
+-- the planes of a picture's own bytes, if it decodes
+abbrev pub decoded : Coding → Sequence → List ℕ → Option Planes
+decoded HighQuality sequence bytes = decoded_planes sequence bytes
+decoded LowDelay sequence bytes = decoded_low_planes sequence bytes
+
+-- ---- streams
 
 pub record StreamPicture : Type 0 where
   pub number : ℕ
   pub planes : Planes
 
--- a stream whose first header came: its sequence, and the pictures behind it
+-- a stream whose first header came: how its pictures are coded, its sequence, and the pictures
+-- behind it
 pub record Stream : Type 0 where
+  pub coding : Coding
   pub sequence : Sequence
   pub pictures : List StreamPicture
 
--- the first header begins the stream, and others have its value
-abbrev pub agreed : Option Stream → Sequence → Option Stream
-agreed None new = Some (record { sequence = new; pictures = [] })
-agreed (Some stream) new = if same_sequence stream.sequence new then Some stream else None
+-- ---- headers
 
-abbrev pub with_header : Option Stream → Result (Sequence × ℕ) HeaderRefusal → Option Stream
-with_header stream (Ok read) = agreed stream read.0
-with_header stream (Err refusal) = None
+-- the value of the header that begins a unit's body, if it is one of this coding's profile
+abbrev pub sequence_in : Coding → List ℕ → Option Sequence
+sequence_in coding body =
+    option_map (λ read. read.0) (result_ok (coded_header_of (profile_of coding) body))
+
+-- a stream with this header, and without pictures
+abbrev pub begun_as : Coding → List ℕ → Option Stream
+begun_as coding body = option_map
+    (λ s. record { coding = coding; sequence = s; pictures = [] }) (sequence_in coding body)
+
+-- the stream of a first header: of high quality or, where it isn't that, of low delay
+abbrev pub begun_by : List ℕ → Option Stream
+begun_by body = option_or (begun_as HighQuality body) (begun_as LowDelay body)
+
+-- a later header has the profile and the value of the first
+abbrev pub repeats : Coding → Sequence → List ℕ → Bool
+repeats coding sequence body =
+    option_map_or (same_sequence sequence) (sequence_in coding body) false
+
+abbrev pub with_header : Option Stream → List ℕ → Option Stream
+with_header None body = begun_by body
+with_header (Some stream) body =
+    if repeats stream.coding stream.sequence body then Some stream else None
+
+-- ---- pictures
 
 -- the picture of a unit's body: its number in 4 bytes, the transform parameters and the slices
-unfoldable pub picture_in : Sequence → List ℕ → Option StreamPicture
-picture_in sequence body =
+unfoldable pub picture_in : Coding → Sequence → List ℕ → Option StreamPicture
+picture_in coding sequence body =
     if nat_lt (length body) 4 then None
     else option_map (λ planes. record { number = big_number 4 body; planes = planes })
-    (decoded_planes sequence (drop 4 body))
+    (decoded coding sequence (drop 4 body))
 
 abbrev pub with_picture : Stream → StreamPicture → Stream
-with_picture stream p = record { sequence = stream.sequence; pictures = stream.pictures ++ p ∷ [] }
+with_picture stream p = record {
+  coding = stream.coding;
+  sequence = stream.sequence;
+  pictures = stream.pictures ++ p ∷ [];
+}
 
-abbrev pub shows : List ℕ → Stream → Option Stream
-shows body stream = option_map (with_picture stream) (picture_in stream.sequence body)
+-- a picture more, if it is coded as the stream's pictures are and decodes
+abbrev pub shows : DataUnit → Stream → Option Stream
+shows u stream =
+    if u.code == code_of stream.coding then
+    option_map (with_picture stream) (picture_in stream.coding stream.sequence u.body)
+    else None
 
--- A unit more: a sequence header of the first one's value, or a picture behind a header, which
--- decodes soundly. Other units bring nothing. None where the unit is refused, as each low-delay
--- picture is.
+-- ---- units
+
+-- A unit more: a sequence header of the first one's profile and value, or a picture behind a
+-- header, which is coded as the profile says and decodes soundly. Other units bring nothing. None
+-- where the unit is refused.
 unfoldable pub takes : Option Stream → DataUnit → Option (Option Stream)
 takes stream u =
-    if u.code == header_code then
-    option_map (λ next. Some next) (with_header stream (coded_header u.body))
-    else if u.code == picture_code then
-    option_map (λ next. Some next) (option_and_then (shows u.body) stream)
-    else if u.code == low_delay_code then None
+    if u.code == header_code then option_map (λ next. Some next) (with_header stream u.body)
+    else if u.code == picture_code || u.code == low_delay_code then
+    option_map (λ next. Some next) (option_and_then (shows u) stream)
     else Some stream
 
 -- what came up to now, and the place of the next unit

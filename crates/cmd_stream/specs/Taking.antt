@@ -1,5 +1,5 @@
 -- What is done with a unit.
-use Rattle.std.specs.Prelude.{◌≡◌, ℕ, ◌≤◌, List, [], ◌++◌, if◌then◌else◌, Option}
+use Rattle.std.specs.Prelude.{◌≡◌, ℕ, ◌≤◌, List, ◌++◌, if◌then◌else◌, Option}
 use Rattle.std.specs.Prelude.{Some, None, Result, Ok, Err, IfSome, false}
 use Rattle.std.specs.Option.{option_map, option_to_list}
 use Rattle.frame_writer.specs.Samples.{HaveByteSamples}
@@ -7,15 +7,14 @@ use Rattle.vc_types.specs.RawFrames.{is_wide}
 use Rattle.vc_ports.specs.Writing.{Grew, GrewBySome}
 use Rattle.vc_types.specs.Planes.{Planes, planes_in}
 use Rattle.vc_types.specs.Rasters.{Raster}
-use Rattle.vc_types.specs.SequenceHeader.{Sequence, picture_shape}
-use Rattle.vc_types.specs.declared.refusal.HeaderRefusal.{HeaderRefusal}
+use Rattle.vc_types.specs.SequenceHeader.{picture_shape}
 use Rattle.vc_types.specs.DataUnits.{DataUnit}
 use Rattle.cmd_stream.specs.declared.play_fault.TakeFault.{TakeFault}
 use Rattle.cmd_stream.specs.declared.play_fault.TakeFault.TheVariants as faults
 use Rattle.frame_writer.specs.Shapes.{HaveShape}
 use Rattle.cmd_stream.specs.PlaySteps.{PlayState, stream_state, shown, new_frames}
-use Rattle.vc_types.specs.SameValues.{same_sequence}
-use Rattle.cmd_stream.specs.Stream.{Stream, StreamPicture, picture_in, takes, played, raw_frames}
+use Rattle.cmd_stream.specs.Stream.{Stream, StreamPicture, begun_by, repeats, picture_in, takes}
+use Rattle.cmd_stream.specs.Stream.{played, raw_frames}
 
 -- the field that waits has the shape of the sequence's pictures
 abbrev pub HasShape : PlayState → Type 0
@@ -42,7 +41,7 @@ frame_due k p = raw_frames k.sequence (new_frames k.sequence k.waiting p)
 pub record IsShown (body : List ℕ) (old new : PlayState) (before after : Option (List ℕ))
     : Type 0 where
   pub picture : StreamPicture
-  pub read : picture_in old.sequence body ≡ Some picture
+  pub read : picture_in old.coding old.sequence body ≡ Some picture
   pub state : new ≡ shown old picture
   pub grew : Grew before after (frame_due old picture)
 
@@ -50,7 +49,7 @@ pub record IsShown (body : List ℕ) (old new : PlayState) (before after : Optio
 pub record IsPartlyShown (body : List ℕ) (old : PlayState) (before after : Option (List ℕ))
     : Type 0 where
   pub picture : StreamPicture
-  pub read : picture_in old.sequence body ≡ Some picture
+  pub read : picture_in old.coding old.sequence body ≡ Some picture
   pub grew : GrewBySome before after (frame_due old picture)
 
 -- what was done with a picture
@@ -59,22 +58,21 @@ abbrev pub Shows : List ℕ → PlayState → PlayState → Option (List ℕ) �
 Shows body old new before after (Ok done) = IsShown body old new before after
 Shows body old new before after (Err faults.WriteFault) = IsPartlyShown body old before after
 Shows body old new before after (Err faults.Refused) =
-    (picture_in old.sequence body ≡ None) × (after ≡ before)
+    (picture_in old.coding old.sequence body ≡ None) × (after ≡ before)
 Shows body old new before after (Err faults.NoMemory) = after ≡ before
 
--- a header more: the first one begins a stream, and others have its value
-abbrev pub agreed_state : Option PlayState → Result (Sequence × ℕ) HeaderRefusal → Option PlayState
-agreed_state kept (Err refusal) = None
-agreed_state None (Ok read) = Some (stream_state (record { sequence = read.0; pictures = [] }))
-agreed_state (Some k) (Ok read) = if same_sequence k.sequence read.0 then Some k else None
+-- a header more: the first one begins a stream, and others repeat it
+abbrev pub agreed_state : Option PlayState → List ℕ → Option PlayState
+agreed_state None body = option_map stream_state (begun_by body)
+agreed_state (Some k) body = if repeats k.coding k.sequence body then Some k else None
 
 -- a header was taken, or refused
-abbrev pub Agrees : Result (Sequence × ℕ) HeaderRefusal → Option PlayState → Option PlayState
-    → Result (Unit {0}) TakeFault → Type 0
-Agrees header old new (Ok done) =
-    (k : PlayState) × (agreed_state old header ≡ Some k) × (new ≡ Some k)
-Agrees header old new (Err faults.Refused) = agreed_state old header ≡ None
-Agrees header old new (Err other) = ⊥
+abbrev pub Agrees : List ℕ → Option PlayState → Option PlayState → Result (Unit {0}) TakeFault
+    → Type 0
+Agrees body old new (Ok done) =
+    (k : PlayState) × (agreed_state old body ≡ Some k) × (new ≡ Some k)
+Agrees body old new (Err faults.Refused) = agreed_state old body ≡ None
+Agrees body old new (Err other) = ⊥
 
 -- what is kept after so many units at most
 pub record HasAtMost (units : ℕ) (k : PlayState) : Type 0 where

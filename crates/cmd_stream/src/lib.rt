@@ -2,6 +2,7 @@
 //! carry its pictures.
 #![tactic(auto)]
 
+mod coding;
 mod opened;
 mod pack_fault;
 mod pack_slices;
@@ -16,5 +17,6 @@ mod playing;
 mod stream;
 mod totals;
 
+pub use coding::Coding;
 pub use packing::pack;
 pub use playing::{play, reading_ended};

@@ -3,18 +3,22 @@ ghost use Rattle.std.specs.Option.{option_map};
 ghost use Rattle.vc_types.specs.Planes.{planes_in, decoded_planes};
 ghost use Rattle.vc_types.specs.SequenceHeader.{sequence_of, picture_shape};
 ghost use Rattle.vc_types.specs.TransformParameters.{parameters_of};
+ghost use Rattle.vc_lowdelay.specs.LowDelay.{decoded_low_planes, if_decoded, low_planes};
+ghost use Rattle.vc_lowdelay.specs.OfPlan.{low_parameters_of};
 ghost use Rattle.picture_build.specs.Kept.{no_slices};
 ghost use Rattle.frame_writer.specs.Shapes.{HaveShape};
 ghost use Rattle.cmd_stream.specs.Slices.{IsBuilt};
-ghost use Rattle.cmd_stream.specs.Stream.{picture_in};
+ghost use Rattle.cmd_stream.specs.Stream.{decoded, picture_in};
 ghost use Rattle.cmd_stream.specs.PlayViews.{picture_of};
 
+use crate::coding::Coding;
 use crate::play_slices::take_slices;
 use byteorder::{BigEndian, ByteOrder};
 use bytes::Bytes;
 use picture_build::PictureBuilder;
 use std::alloc::Global;
 use std::thread::Threads;
+use vc_lowdelay::{LowPlan, LowRefusal, decode_low_joined, read_low_params};
 use vc_params::read_params;
 use vc_types::{Header, NoMemory, Plan, Plane};
 
@@ -28,17 +32,19 @@ pub(crate) struct Picture {
     pub(crate) planes: [Plane; 3],
 }
 
-/// The picture of a data unit's body; none where it is refused. A builder is kept from picture to picture.
+/// The picture of a data unit's body; none where it is refused. The builder of high-quality pictures is kept
+/// from picture to picture.
 #[tactic(auto, unfolding(crate::specs::Stream::picture_in))]
 pub(crate) fn read_picture<H: Threads + Copy + Send + Sync>(
     rt: H,
     alloc: Global,
+    coding: Coding,
     header: &Header,
     kept: &mut Option<PictureBuilder>,
     body: Vec<u8>,
 ) -> Result<Option<Picture>, NoMemory>
     ensures value { IfOk result (λ picture.
-        option_map picture_of picture ≡ picture_in (sequence_of header.now) body.items) }
+        option_map picture_of picture ≡ picture_in coding (sequence_of header.now) body.items) }
     ensures shape { IfOk result (λ picture. IfSome picture (λ p.
         HaveShape (picture_shape (sequence_of header.now)) (planes_in p.planes))) }
 {
@@ -50,13 +56,71 @@ pub(crate) fn read_picture<H: Threads + Copy + Send + Sync>(
         return Err(NoMemory);
     };
     bytes.advance(NUMBER_BYTES);
-    match read_planes(rt, alloc, header, kept, number, bytes)? {
+    match planes_by(rt, alloc, coding, header, kept, number, bytes)? {
         Some(planes) => Ok(Some(Picture { number, planes })),
         None => Ok(None),
     }
 }
 
-// The planes of a picture's own bytes: its transform parameters and its slices.
+// The planes of a picture's own bytes, by how it is coded.
+fn planes_by<H: Threads + Copy + Send + Sync>(
+    rt: H,
+    alloc: Global,
+    coding: Coding,
+    header: &Header,
+    kept: &mut Option<PictureBuilder>,
+    number: u32,
+    bytes: Bytes,
+) -> Result<Option<[Plane; 3]>, NoMemory>
+    ensures value { IfOk result (λ planes.
+        option_map planes_in planes ≡ decoded coding (sequence_of header.now) bytes) }
+    ensures shape { IfOk result (λ planes. IfSome planes (λ p.
+        HaveShape (picture_shape (sequence_of header.now)) (planes_in p))) }
+{
+    match coding {
+        Coding::HighQuality => read_planes(rt, alloc, header, kept, number, bytes),
+        Coding::LowDelay => read_low_planes(rt, alloc, header, bytes.as_slice()),
+    }
+}
+
+// The planes of a low-delay picture's own bytes: its transform parameters and its slices.
+fn read_low_planes<H: Threads + Copy + Send + Sync>(
+    rt: H,
+    alloc: Global,
+    header: &Header,
+    bytes: &[u8],
+) -> Result<Option<[Plane; 3]>, NoMemory>
+    ensures value { IfOk result (λ planes. option_map planes_in planes
+        ≡ decoded_low_planes (sequence_of header.now) bytes.now) }
+    ensures shape { IfOk result (λ planes. IfSome planes (λ p.
+        HaveShape (picture_shape (sequence_of header.now)) (planes_in p))) }
+{
+    let Ok((plan, used)) = read_low_params(header, bytes) else {
+        return Ok(None);
+    };
+    let (_, slices) = bytes.split_at(used);
+    low_planes_of(rt, alloc, &plan, slices)
+}
+
+// The planes of a low-delay picture's slices.
+fn low_planes_of<H: Threads + Copy + Send + Sync>(
+    rt: H,
+    alloc: Global,
+    plan: &LowPlan,
+    slices: &[u8],
+) -> Result<Option<[Plane; 3]>, NoMemory>
+    ensures value { IfOk result (λ planes. option_map planes_in planes
+        ≡ if_decoded (low_planes (low_parameters_of plan.now) slices.now)) }
+{
+    match decode_low_joined(rt, alloc, plan, slices) {
+        Ok(planes) => Ok(Some(planes)),
+        Err(LowRefusal::Short) => Ok(None),
+        Err(LowRefusal::CoefficientRange) => Ok(None),
+        Err(LowRefusal::NoMemory) => Err(NoMemory),
+    }
+}
+
+// The planes of a high-quality picture's own bytes: its transform parameters and its slices.
 fn read_planes<H: Threads + Copy + Send + Sync>(
     rt: H,
     alloc: Global,

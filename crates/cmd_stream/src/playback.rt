@@ -6,9 +6,11 @@ ghost use Rattle.vc_types.specs.SequenceHeader.{sequence_of, picture_shape};
 ghost use Rattle.frame_writer.specs.Shapes.{HaveShape};
 ghost use Rattle.cmd_stream.specs.PlayLooping.{unpaired_of};
 ghost use Rattle.cmd_stream.specs.PlaySteps.{stream_state, next_waiting, new_frames};
+ghost use Rattle.cmd_stream.specs.Stream.{begun_as, begun_by, repeats};
 ghost use Rattle.cmd_stream.specs.Taking.{HasShape, CompletesFrame, Shows};
 ghost use Rattle.cmd_stream.specs.PlayViews.{playback_state, picture_of};
 
+use crate::coding::Coding;
 use crate::pairs::{is_pair, waits};
 use crate::picture::{Picture, read_picture};
 use crate::play_fault::TakeFault;
@@ -18,11 +20,13 @@ use picture_build::PictureBuilder;
 use std::alloc::Global;
 use std::thread::Threads;
 use vc_ports::Sink;
+use vc_seqhdr::read_header_of;
 use vc_types::{Header, NoMemory, Plane};
 
 /// What is kept of a stream behind its first header: at most one field.
 #[derive(Drop)]
 pub(crate) struct Playback {
+    pub(crate) coding: Coding,
     pub(crate) header: Header,
     // With field coding, the earlier field of a frame, which waits for the very next picture.
     pub(crate) waiting: Option<Picture>,
@@ -33,17 +37,50 @@ pub(crate) struct Playback {
 }
 
 impl Playback {
-    /// A stream without pictures.
-    pub(crate) fn new(header: Header) -> Playback
-        ensures { playback_state result
-            ≡ stream_state (record { sequence = sequence_of header; pictures = [] }) }
+    /// The stream that a first header begins, of high quality or, where it isn't that, of low delay; none
+    /// where it is neither.
+    pub(crate) fn begun_by(body: &[u8]) -> Option<Playback>
+        ensures { option_map playback_state result ≡ option_map stream_state (begun_by body.now) }
+    {
+        match Playback::begun_as(Coding::HighQuality, body) {
+            Some(stream) => Some(stream),
+            None => Playback::begun_as(Coding::LowDelay, body),
+        }
+    }
+
+    // The same of one coding.
+    fn begun_as(coding: Coding, body: &[u8]) -> Option<Playback>
+        ensures { option_map playback_state result
+            ≡ option_map stream_state (begun_as coding body.now) }
+    {
+        match read_header_of(coding.profile(), body) {
+            Ok((header, _)) => Some(Playback::new(coding, header)),
+            Err(_) => None,
+        }
+    }
+
+    // A stream without pictures.
+    fn new(coding: Coding, header: Header) -> Playback
+        ensures { playback_state result ≡ stream_state
+            (record { coding = coding; sequence = sequence_of header; pictures = [] }) }
     {
         Playback {
+            coding,
             header,
             waiting: None,
             pictures: 0,
             frames: 0,
             builder: None,
+        }
+    }
+
+    /// Whether a later header has the profile and the value of the first.
+    pub(crate) fn repeats(&self, body: &[u8]) -> bool
+        ensures { result ≡ repeats self.now.coding (sequence_of self.now.header) body.now }
+    {
+        match read_header_of(self.coding.profile(), body) {
+            Ok((header, _)) => self.header.is_same(&header),
+            Err(_) => false,
         }
     }
 
@@ -65,7 +102,8 @@ impl Playback {
             × (self.new.frames ≤ self.new.pictures)) }
         ensures shape { OnOk result (HasShape (playback_state self.new)) }
     {
-        let Some(picture) = read_picture(rt, alloc, &self.header, &mut self.builder, body)? else {
+        let kept = &mut self.builder;
+        let Some(picture) = read_picture(rt, alloc, self.coding, &self.header, kept, body)? else {
             return Err(TakeFault::Refused);
         };
         let frame = self.completed(alloc, picture)?;

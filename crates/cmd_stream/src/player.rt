@@ -2,7 +2,6 @@ ghost use Rattle.std.specs.Prelude.{◌≡◌, ◌+◌, ◌-◌, ◌^◌, ℕ, E
 ghost use Rattle.std.specs.Option.{option_map};
 ghost use Rattle.std.specs.declared.option.Option.{Option};
 ghost use Rattle.vc_ports.specs.Faults.{HasCause};
-ghost use Rattle.vc_types.specs.SequenceHeader.{coded_header};
 ghost use Rattle.vc_units.specs.Reading.{unit_of};
 ghost use Rattle.cmd_stream.specs.PlayLooping.{summary_of};
 ghost use Rattle.cmd_stream.specs.PlaySteps.{stream_state, state_so_far};
@@ -16,7 +15,6 @@ use link_report::Summary;
 use std::alloc::Global;
 use std::thread::Threads;
 use vc_ports::Sink;
-use vc_seqhdr::read_header;
 use vc_types::{HIGH_QUALITY_PICTURE, LOW_DELAY_PICTURE, SEQUENCE_HEADER};
 use vc_units::Unit;
 
@@ -55,11 +53,13 @@ impl Player {
     {
         match unit.code {
             SEQUENCE_HEADER => self.agree(&unit.body),
-            HIGH_QUALITY_PICTURE => match &mut self.stream {
-                Some(stream) => stream.show(rt, alloc, unit.body, output),
+            HIGH_QUALITY_PICTURE | LOW_DELAY_PICTURE => match &mut self.stream {
+                Some(stream) if unit.code == stream.coding.picture_code() => {
+                    stream.show(rt, alloc, unit.body, output)
+                }
+                Some(_) => Err(TakeFault::Refused),
                 None => Err(TakeFault::Refused),
             },
-            LOW_DELAY_PICTURE => Err(TakeFault::Refused),
             _ => Ok(()),
         }
     }
@@ -83,17 +83,18 @@ impl Player {
         }
     }
 
-    // Takes a sequence header: the first, or one of the same value.
+    // Takes a sequence header: the first, or one of the same profile and value.
     fn agree(&mut self, body: &[u8]) -> Result<(), TakeFault>
-        ensures value { Agrees (coded_header body.now)
-            (player_state self.old) (player_state self.new) result }
+        ensures value { Agrees body.now (player_state self.old) (player_state self.new) result }
     {
-        let Ok((header, _)) = read_header(body) else {
-            return Err(TakeFault::Refused);
-        };
         match &self.stream {
-            None => self.stream = Some(Playback::new(header)),
-            Some(stream) if stream.header.is_same(&header) => {}
+            None => {
+                let Some(stream) = Playback::begun_by(body) else {
+                    return Err(TakeFault::Refused);
+                };
+                self.stream = Some(stream);
+            }
+            Some(stream) if stream.repeats(body) => {}
             Some(_) => return Err(TakeFault::Refused),
         }
         Ok(())

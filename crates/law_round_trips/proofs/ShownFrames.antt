@@ -6,6 +6,7 @@ use Rattle.link_model.specs.Complete.{whole_picture}
 use Rattle.link_model.specs.Numbers.{Numbered, parts_of}
 use Rattle.link_model.specs.Output.{planes_at, field_frame_at, frame_at, frame_bytes_at, raw_bytes, woven_fields}
 use Rattle.stream_model.specs.Streams.{picture_unit_at, frame_pictures, frame_units}
+use Rattle.cmd_stream.specs.declared.coding.Coding.TheVariants.{HighQuality}
 use Rattle.cmd_stream.specs.Stream.{Stream, StreamPicture, StreamSoFar, after_unit, all_taken, picture_in, takes, with_picture, is_pair, paired_frames, raw_frames, stream_frames, unpaired_in}
 use Rattle.vc_types.specs.DataUnits.{DataUnit, unit_length}
 use Rattle.vc_types.specs.Planes.{Planes, decoded_planes}
@@ -13,16 +14,15 @@ use Rattle.vc_types.specs.SequenceHeader.{Sequence, picture_shape}
 use Rattle.std.proofs.lemmas.Bool.{cond-false, cond-true, eq-eqb, eqb-true}
 use Rattle.std.proofs.lemmas.List.Concat.{flat_map-cons}
 use Rattle.std.proofs.lemmas.List.Elements.{All-append, All-cons, All-nil}
-use Rattle.std.proofs.lemmas.Grind.{common_steps}
 use Rattle.vc_types.specs.FieldPairs.{woven}
 use Rattle.vc_types.specs.RawFrames.{frame_bytes, is_wide}
 use Rattle.law_round_trips.proofs.ReadUnits.{IsInside}
 
 -- ---- the pictures of an elementary stream
 
--- a stream of these pictures up to now
+-- a stream of high quality, of these pictures up to now
 abbrev pub stream_with : Sequence → List StreamPicture → Stream
-stream_with s pictures = record { sequence = s; pictures = pictures }
+stream_with s pictures = record { coding = HighQuality; sequence = s; pictures = pictures }
 
 abbrev pub so_far_with : Sequence → List StreamPicture → ℕ → StreamSoFar
 so_far_with s pictures place = record { stream = Some (stream_with s pictures); place = place }
@@ -58,15 +58,15 @@ abbrev pub shown_at : ℕ → Planes → StreamPicture
 shown_at n planes = record { number = n % 2 ^ 32; planes = planes }
 
 module _ (s : Sequence) (es : List Numbered) (n : ℕ) (planes : Planes) where
-  whole_read : (whole : List ℕ) → decoded_planes s whole ≡ Some planes → picture_in s (big_bytes 4 n ++ whole) ≡ Some (shown_at n planes)
+  whole_read : (whole : List ℕ) → decoded_planes s whole ≡ Some planes → picture_in HighQuality s (big_bytes 4 n ++ whole) ≡ Some (shown_at n planes)
   unfolding picture_in
   whole_read whole is = grind (arith, le-ltb, length-append)
 
-  unit_read : planes_at s es n ≡ Some planes → picture_in s (picture_unit_at s es n).body ≡ Some (shown_at n planes)
+  unit_read : planes_at s es n ≡ Some planes → picture_in HighQuality s (picture_unit_at s es n).body ≡ Some (shown_at n planes)
   unfolding planes_at
   unit_read is = by_whole (whole_picture s (parts_of n es)) is
     where
-      by_whole : (o : Option (List ℕ)) → option_and_then (decoded_planes s) o ≡ Some planes → picture_in s (big_bytes 4 n ++ unwrap_or o []) ≡ Some (shown_at n planes)
+      by_whole : (o : Option (List ℕ)) → option_and_then (decoded_planes s) o ≡ Some planes → picture_in HighQuality s (big_bytes 4 n ++ unwrap_or o []) ≡ Some (shown_at n planes)
       by_whole o is = grind (arith, whole_read)
 
   pub unit_taken : planes_at s es n ≡ Some planes → (before : List StreamPicture) → takes (Some (stream_with s before)) (picture_unit_at s es n) ≡ Some (Some (stream_with s (before ++ shown_at n planes ∷ [])))
