@@ -1,10 +1,11 @@
 """A receiver and a player that share no code with the repository, for crosscheck/fuzz and crosscheck/streams.
 
 They were written from docs/FORMATS.md: what each datagram of a capture is judged to be, which pictures are whole, what is
-written of them, and what the report says. Pictures are decoded by crosscheck/vc2.py.
+written of them, and what the report says. Pictures are decoded by crosscheck/vc2.py and crosscheck/low_delay.py.
 """
 
-from vc2 import AUXILIARY, END, FRAGMENT, HEADER, PADDING, PICTURE, Refused
+import low_delay
+from vc2 import AUXILIARY, END, FRAGMENT, HEADER, LOW_DELAY, PADDING, PICTURE, Refused
 from vc2 import frame_of, next_unit, planes_of, raw_frame, read_header, read_parameters, slice_end, stream_of, video_of
 
 COUNTS = (
@@ -282,8 +283,18 @@ def unpack(capture, window, packets):
 # ---- elementary streams
 
 
+def profile_of(body):
+    """The profile of a first header: 3, or where it isn't that, 0."""
+    try:
+        read_header(body, 3)
+        return 3
+    except Refused:
+        return 0
+
+
 class Player:
     def __init__(self):
+        self.profile = None
         self.header = None
         self.video = None
         self.pictures = 0
@@ -292,17 +303,23 @@ class Player:
 
     def take(self, code, body):
         if code == HEADER:
-            header, _ = read_header(body)
-            if self.header not in (None, header):
-                raise Refused
-            self.header, self.video = header, video_of(header)
-        elif code == PICTURE:
-            self.take_picture(body)
+            self.take_header(body)
+        elif code in (PICTURE, LOW_DELAY):
+            self.take_picture(code, body)
 
-    def take_picture(self, body):
-        if self.video is None or len(body) < 4:
+    def take_header(self, body):
+        if self.profile is None:
+            self.profile = profile_of(body)
+        header, _ = read_header(body, self.profile)
+        if self.header not in (None, header):
             raise Refused
-        planes = planes_of(body[4:], self.video)
+        self.header, self.video = header, video_of(header)
+
+    def take_picture(self, code, body):
+        if self.video is None or code != (PICTURE if self.profile == 3 else LOW_DELAY) or len(body) < 4:
+            raise Refused
+        decode = planes_of if self.profile == 3 else low_delay.planes_of
+        planes = decode(body[4:], self.video)
         self.pictures += 1
         number = int.from_bytes(body[:4], "big")
         if not self.video.fields:

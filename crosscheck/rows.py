@@ -33,6 +33,21 @@ END = "42424344 10 00000000 0000001C"
 # The datagrams that carry it: the marker is set on the one with its last slice.
 PACKED = HEADER + PARAMETERS + SLICES.replace("8060", "80E0")
 
+# A low-delay picture of 4 by 2 samples and one slice, and an end of sequence.
+LOW_DELAY = (
+    "42424344 00 00000011 00000000 3F1BC080 42424344 C8 00000018 00000011 00000000 092464 0060BFFF"
+    "42424344 10 00000000 00000018"
+)
+
+# Reports on the first capture's source behind its last packet, and behind each of the first two, and what they say.
+NAME = "81CA0002 {:08X} 01016100"
+RECEIVER_REPORT = "002C 81C90007 00000002 00000001 00000000 00000002 00000000 00000000 00000000" + NAME.format(2)
+SENDER_REPORT = "0028 80C80006 00000001 00000005 00000000 00000000 00000003 00000038" + NAME.format(1)
+ON_PROBATION = "0014 80C90001 00000002" + NAME.format(2)
+EARLY_REPORT = "002C 81C90007 00000002 00000001 00000000 00000001 00000000 00000000 00000000" + NAME.format(2)
+REPORTED = "datagrams 3\npackets 3\nreports 1\n"
+SHOWN = b"rr 2 blocks 1\nblock 1 fraction 0 lost 0 highest 2\nsr 1 packets 3 octets 56 blocks 0\n"
+
 # A frame of 2 by 2 samples, one of them darker, and what carries it: the same three datagrams, and the end of the sequence.
 FRAME = "80807F80 80808080 80808080"
 SENT = (
@@ -81,6 +96,11 @@ ROWS = [
     (SMALL, FRAME[:-2], 10, b"", "raw cut at frame 0\n"),
     (SMALL + " --frames 1", FRAME + FRAME, 14, bytes.fromhex(SENT), "frame limit 1\n"),
     ("pack", UNITS + END, 0, bytes.fromhex(PACKED + SENT_END), "pictures 1\ndatagrams 4\nbytes 108\n"),
+    ("play", LOW_DELAY, 0, bytes([0x83] * 8 + [0x80] * 16), PLAYED),
+    ("rtcp --cname a", CAPTURE, 0, bytes.fromhex(RECEIVER_REPORT), REPORTED),
+    ("rtcp --sender 1 --ntp 5 --cname a", CAPTURE, 0, bytes.fromhex(SENDER_REPORT), REPORTED),
+    ("rtcp --every 1 --cname a", CAPTURE[:-2], 8, bytes.fromhex(ON_PROBATION + EARLY_REPORT), "capture cut at 56\n"),
+    ("rtcp-show", RECEIVER_REPORT + SENDER_REPORT, 0, SHOWN, "datagrams 2\n"),
     ("gen --width 1 --height 1 --sampling 444 --range 1", "", 0, bytes.fromhex("141A9A"), "frames 1\nsamples 3\n"),
     ("gen --width 1 --height 1 --sampling 444 --range 1 --check 1", "", 0, b"", "frames 1\nsamples 3\ndifferent 0\n"),
     ("unpack", CAPTURE, 0, bytes.fromhex(UNITS + END), ONE_PICTURE),

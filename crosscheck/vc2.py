@@ -69,7 +69,7 @@ TOP_FIRST = {2, 4, 6, 8, 9, 10, 11, 12, 13, 14, 15, 16}
 RANGES = {1: (0, 255, 128, 255), 2: (16, 219, 128, 224), 3: (64, 876, 512, 896), 4: (256, 3504, 2048, 3584)}
 
 # Parse codes.
-HEADER, END, AUXILIARY, PADDING, PICTURE, FRAGMENT = 0x00, 0x10, 0x20, 0x30, 0xE8, 0xEC
+HEADER, END, AUXILIARY, PADDING, LOW_DELAY, PICTURE, FRAGMENT = 0x00, 0x10, 0x20, 0x30, 0xC8, 0xE8, 0xEC
 
 
 class Refused(Exception):
@@ -189,11 +189,11 @@ class Video(NamedTuple):
         return 2 if self.is_wide else 1
 
 
-def read_header(data):
-    """The value of a sequence header, and how many bytes it has."""
+def read_header(data, profile=3):
+    """The value of a sequence header of a profile, 3 or 0, and how many bytes it has."""
     bits = Fields(data)
-    major, minor = bits.uint(3, 2), bits.uint()
-    bits.uint(3, 3)
+    major, minor = bits.uint(3, 1 if profile == 0 else 2), bits.uint()
+    bits.uint(profile, profile)
     level, base = bits.uint(), bits.uint(16)
     width, height, sampling, preset = BASES[base]
     interlaced = base in INTERLACED
@@ -232,11 +232,11 @@ def has_size(width, height, sampling, fields):
     return 1 <= width <= 8192 and 1 <= height <= 8192 and not (sampling and width % 2) and height % halved == 0
 
 
-def header_bytes(major, minor, level, base, size, sampling, signal, fields, interlaced=None):
+def header_bytes(major, minor, level, base, size, sampling, signal, fields, interlaced=None, profile=3):
     """A sequence header with a custom size, sampling and signal range: a preset's number, or 0 and the four of a range.
     Whether it is interlaced is coded where it is given."""
     bits = Writer()
-    bits.uint(major, minor, 3, level, base)
+    bits.uint(major, minor, profile, level, base)
     bits.part(size)
     bits.part([sampling])
     bits.part(None if interlaced is None else [interlaced])
@@ -565,7 +565,7 @@ def stream_of(units):
 def next_unit(stream, at):
     """The code, the body and the end of the unit that begins at a place."""
     head = stream[at : at + 13]
-    if len(head) < 13 or head[:4] != b"BBCD" or head[4] not in (HEADER, END, AUXILIARY, PADDING, PICTURE):
+    if len(head) < 13 or head[:4] != b"BBCD" or head[4] not in (HEADER, END, AUXILIARY, PADDING, LOW_DELAY, PICTURE):
         raise Refused
     if head[4] == END:
         return END, b"", at + 13
