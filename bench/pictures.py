@@ -1,9 +1,11 @@
 """Pictures of 1920 by 1080 to measure with: 4:2:2, 10 bits, LeGall (5,3) or another wavelet of depth 3, 120 by 135 slices. The
-coefficients are pseudo-random and the same in every run."""
+coefficients are pseudo-random and the same in every run. A low-delay picture has the same coefficients in as many bytes: a slice
+that has more than its share lacks its last ones."""
 
 import random
 
-from vc2 import END, HEADER, PICTURE, Writer, parameter_bytes
+from low_delay import digits, length_bits, slice_bytes
+from vc2 import END, HEADER, LOW_DELAY, PICTURE, Writer, parameter_bytes
 
 WIDTH, HEIGHT = 1920, 1080
 SAMPLES = 2 * WIDTH * HEIGHT
@@ -29,9 +31,9 @@ LARGEST = 63
 INDICES = range(12, 20)
 
 
-def sequence_header():
+def sequence_header(profile=3):
     bits = Writer()
-    bits.uint(MAJOR, 0, 3, 0, BASE_FORMAT)
+    bits.uint(MAJOR, 0, profile, 0, BASE_FORMAT)
     for _ in range(CUSTOM_PARTS):
         bits.part(None)
     bits.uint(0)
@@ -70,6 +72,37 @@ def coded_slices():
     return slices
 
 
+def joined(*numbers):
+    return "".join(map(str, sum(numbers, [])))
+
+
+def low_slice(rng, size, codes, weights):
+    """A low-delay slice: index, luma's length, luma, and the colours in turn."""
+    luma, first, second = (
+        [rng.choices(codes, w, k=n) for n, w in zip(counts, weights)]
+        for counts in (LUMA_COEFFICIENTS, COLOUR_COEFFICIENTS, COLOUR_COEFFICIENTS)
+    )
+    own = "".join(code for codes in luma for code in codes)
+    colours = "".join(a + b for bands in zip(first, second) for a, b in zip(*bands))
+    used = length_bits(size)
+    length = min(len(own), 8 * size - 7 - used)
+    bits = joined(digits(rng.choice(INDICES), 7), digits(length, used)) + own[:length] + colours
+    return int(bits[: 8 * size].ljust(8 * size, "1"), 2).to_bytes(size, "big")
+
+
+def low_pictures(wavelet):
+    """Low-delay parameters, and the slices of a picture in raster order, of as many bytes as `coded_slices`."""
+    count, bits = SLICES_X * SLICES_Y, Writer()
+    ratio = sum(map(len, coded_slices())), count
+    bits.uint(wavelet, DEPTH, SLICES_X, SLICES_Y, *ratio)
+    bits.flag(0)
+    rng = random.Random(2042)
+    values = range(-LARGEST, LARGEST + 1)
+    codes = [signed_code(value) for value in values]
+    weights = [[odds ** abs(value) for value in values] for odds in RATIOS]
+    return bits.bytes(), [low_slice(rng, slice_bytes(ratio, i), codes, weights) for i in range(count)]
+
+
 class StreamWriter:
     """Data units, each with the distances to the next one and from the one before."""
 
@@ -85,13 +118,13 @@ class StreamWriter:
         self.previous = length
 
 
-def write_stream(path, pictures, wavelet=LEGALL):
+def write_stream(path, pictures, wavelet=LEGALL, low_delay=False):
     """A stream of so many pictures. All have the same slices, and each its own number."""
     with open(path, "wb") as file:
         stream = StreamWriter(file)
-        stream.unit(HEADER, sequence_header())
+        stream.unit(HEADER, sequence_header(0 if low_delay else 3))
         if pictures > 0:
-            parameters, slices = transform_parameters(wavelet), coded_slices()
+            parameters, slices = low_pictures(wavelet) if low_delay else (transform_parameters(wavelet), coded_slices())
             for number in range(pictures):
-                stream.unit(PICTURE, number.to_bytes(4, "big"), parameters, *slices)
+                stream.unit(LOW_DELAY if low_delay else PICTURE, number.to_bytes(4, "big"), parameters, *slices)
         stream.unit(END)
