@@ -25,7 +25,7 @@ pub(crate) struct PictureCells<'a> {
 }
 
 /// How the three components of a picture are transformed. Luma and colour have lists to work in, which are
-/// made where they haven't the length of a component.
+/// made where they haven't the length that a component's transform needs.
 pub(crate) trait Transform {
     /// The planes of a picture.
     fn planes(

@@ -17,3 +17,4 @@ mod sizes;
 pub use builder::{NotPut, PictureBuilder};
 pub use building::{build, build_joined};
 pub use laws::{fields_can_be_woven, planes_have_their_shape};
+pub use narrow::nested_plane;

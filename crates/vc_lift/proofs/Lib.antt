@@ -13,3 +13,4 @@ pub mod Sums
 pub mod Places
 pub mod Sweeps
 pub mod Runs
+pub mod LineWindows

@@ -7,3 +7,4 @@ pub mod Columns
 pub mod Steps
 pub mod StepLists
 pub mod ColumnSums
+pub mod Reach

@@ -1,12 +1,12 @@
 -- A unit that is read in two steps, its parse info and its body, and what each step's end means.
-use Rattle.std.proofs.Common.{◌≡◌, ◌≢◌, ℕ, ◌<◌, Bool, not, cond, List, [], ◌++◌, length, take, Option, Result, Ok, Err, sym, ap, subst, ◌∙◌, append_assoc, arith}
-use Rattle.std.proofs.lemmas.List.{length-append, length-take-le, append-nil}
+use Rattle.std.proofs.Common.{◌≡◌, ◌≢◌, ℕ, ◌+◌, ◌≤◌, Bool, not, cond, List, ◌++◌, length, take, Option, Result, Ok, Err, sym, ap, subst, ◌∙◌, append_assoc, arith}
+use Rattle.std.proofs.lemmas.List.{length-append, length-take-le}
 use Rattle.vc_ports.specs.Reading.{Gave}
 use Rattle.vc_ports.specs.Filling.{Fills}
 use Rattle.vc_ports.specs.declared.whole.Filled.TheVariants.{End, Failed}
 use Rattle.vc_ports.proofs.Given.{Gave-then, GaveAll-then}
 use Rattle.vc_units.specs.Units.{data_unit, code_of, body_length}
-use Rattle.vc_units.specs.Reading.{GaveUnit, GaveRefused, GavePartOfUnit, GaveCutUnit, ReadsUnit}
+use Rattle.vc_units.specs.Reading.{GaveUnit, GaveRefused, GavePartOfUnit, GaveCutUnit, GaveCutBody, GavePartOfBody, ReadsBody, ReadsUnit}
 use Rattle.vc_units.specs.declared.fault.UnitFault.{UnitFault}
 use Rattle.vc_units.specs.declared.fault.UnitFault.TheVariants.{Prefix, Offset, Code, Short, ReadFault, NoMemory}
 use Rattle.vc_units.proofs.Infos.{data_unit-stub, data_unit-refused, data_unit-cut, data_unit-whole}
@@ -68,14 +68,6 @@ refused_info before after place info fault len gave is = by_fault fault is (info
     by_fault ReadFault is own = absurd own
     by_fault NoMemory is own = absurd own
 
--- no memory for a body that isn't empty
-pub part_without_memory : (before mid : Option (List ℕ)) (info : List ℕ) (count : ℕ) → length info ≡ 13 → body_length info ≡ Ok count → 0 < count → Gave before mid info → GavePartOfUnit before mid
-part_without_memory before mid info count len told some first = record {
-  part = info;
-  gave = first;
-  not_whole = rw append-nil at (data_unit-cut info [] count len told some);
-}
-
 -- the body came whole
 pub whole_unit : (before mid after : Option (List ℕ)) (info body : List ℕ) (count : ℕ) → length info ≡ 13 → body_length info ≡ Ok count → length body ≡ count
     → Gave before mid info → Gave mid after body → GaveUnit before after (record { code = code_of info; body = body })
@@ -86,25 +78,53 @@ whole_unit before mid after info body count len told whole first second = record
   is = λ more. ap data_unit (append_assoc info body more) ∙ data_unit-whole info body more count len told whole;
 }
 
--- the end came within the body
-pub cut_in_body : (before mid after : Option (List ℕ)) (info body : List ℕ) (count n : ℕ) → length info ≡ 13 → body_length info ≡ Ok count → length body ≡ count
-    → Gave before mid info → Fills mid after body (End n) → GaveCutUnit before after
-cut_in_body before mid after info body count n len told whole first fills =
-    let taken : length (take n body) ≡ n = length-take-le n body (omega (arith, fills.0)) in
+-- ---- a body that comes part by part
+
+-- the end came within a part
+pub cut_in_part : (before mid after : Option (List ℕ)) (front part : List ℕ) (count n : ℕ) → length front + length part ≤ count → Gave before mid front → Fills mid after part (End n) → GaveCutBody before after count
+cut_in_part before mid after front part count n within first fills =
+    let taken : length (take n part) ≡ n = length-take-le n part (omega (arith, fills.0)) in
     record {
-      part = info ++ take n body;
-      gave = GaveAll-then before mid after info (take n body) first fills.1;
-      some = λ none. omega (arith, ap length none, length-append info (take n body), len);
-      not_whole = data_unit-cut info (take n body) count len told (omega (arith, fills.0));
+      part = front ++ take n part;
+      gave = GaveAll-then before mid after front (take n part) first fills.1;
+      short = omega (arith, length-append front (take n part), taken, within, fills.0);
     }
 
--- a read failed within the body
-pub fault_in_body : (before mid after : Option (List ℕ)) (info body : List ℕ) (count n : ℕ) → length info ≡ 13 → body_length info ≡ Ok count → length body ≡ count
-    → Gave before mid info → Fills mid after body (Failed n) → GavePartOfUnit before after
-fault_in_body before mid after info body count n len told whole first fills =
-    let taken : length (take n body) ≡ n = length-take-le n body (omega (arith, fills.0)) in
+-- a read failed within a part
+pub fault_in_part : (before mid after : Option (List ℕ)) (front part : List ℕ) (count n : ℕ) → length front + length part ≤ count → Gave before mid front → Fills mid after part (Failed n) → GavePartOfBody before after count
+fault_in_part before mid after front part count n within first fills =
+    let taken : length (take n part) ≡ n = length-take-le n part (omega (arith, fills.0)) in
     record {
-      part = info ++ take n body;
-      gave = Gave-then before mid after info (take n body) first fills.1;
-      not_whole = data_unit-cut info (take n body) count len told (omega (arith, fills.0));
+      part = front ++ take n part;
+      gave = Gave-then before mid after front (take n part) first fills.1;
+      short = omega (arith, length-append front (take n part), taken, within, fills.0);
     }
+
+-- ---- a parse info, and the body behind it
+
+module _ (before mid after : Option (List ℕ)) (info : List ℕ) (count : ℕ) (len : length info ≡ 13) (told : body_length info ≡ Ok count) (first : Gave before mid info) where
+  -- the end came within the body
+  cut_in_body : GaveCutBody mid after count → GaveCutUnit before after
+  cut_in_body body = record {
+    part = info ++ body.part;
+    gave = GaveAll-then before mid after info body.part first body.gave;
+    some = λ none. omega (arith, ap length none, length-append info body.part, len);
+    not_whole = data_unit-cut info body.part count len told body.short;
+  }
+
+  -- the body came in part
+  part_of_body : GavePartOfBody mid after count → GavePartOfUnit before after
+  part_of_body body = record {
+    part = info ++ body.part;
+    gave = Gave-then before mid after info body.part first body.gave;
+    not_whole = data_unit-cut info body.part count len told body.short;
+  }
+
+  -- a body that isn't read whole
+  pub refused_body : (place : ℕ) (fault : UnitFault) → ReadsBody mid after count (Err fault) → ReadsUnit before after place (Err fault)
+  refused_body place Short body = cut_in_body body
+  refused_body place ReadFault body = part_of_body body
+  refused_body place NoMemory body = part_of_body body
+  refused_body place Prefix body = absurd body
+  refused_body place Offset body = absurd body
+  refused_body place Code body = absurd body

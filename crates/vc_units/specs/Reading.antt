@@ -1,5 +1,6 @@
 -- What reading a unit from a source did.
-use Rattle.std.specs.Prelude.{◌≡◌, ◌≢◌, ℕ, ◌+◌, List, [], ◌++◌, length, Option, Some, None, Result, Ok, Err}
+use Rattle.std.specs.Prelude.{◌≡◌, ◌≢◌, ◌<◌, ℕ, ◌+◌, List, [], ◌++◌, length, Option, Some, None, Result, Ok, Err}
+use Rattle.std.specs.Global.{Vec}
 use Rattle.vc_ports.specs.Reading.{Gave, GaveAll}
 use Rattle.vc_types.specs.DataUnits.{DataUnit, unit_length}
 use Rattle.vc_units.specs.Units.{data_unit}
@@ -38,6 +39,27 @@ pub record GavePartOfUnit (before after : Option (List ℕ)) : Type 0 where
   pub part : List ℕ
   pub gave : Gave before after part
   pub not_whole : data_unit part ≡ Err Short
+
+-- all that was left was given, and is shorter than the body
+pub record GaveCutBody (before after : Option (List ℕ)) (count : ℕ) : Type 0 where
+  pub part : List ℕ
+  pub gave : GaveAll before after part
+  pub short : length part < count
+
+-- what was given is shorter than the body
+pub record GavePartOfBody (before after : Option (List ℕ)) (count : ℕ) : Type 0 where
+  pub part : List ℕ
+  pub gave : Gave before after part
+  pub short : length part < count
+
+-- what a read of a body of so many bytes did to its source, by the answer
+abbrev pub ReadsBody : Option (List ℕ) → Option (List ℕ) → ℕ → Result (Vec ℕ) UnitFault → Type 0
+ReadsBody before after count (Ok body) =
+    (length body.items ≡ count) × Gave before after body.items
+ReadsBody before after count (Err Short) = GaveCutBody before after count
+ReadsBody before after count (Err ReadFault) = GavePartOfBody before after count
+ReadsBody before after count (Err NoMemory) = GavePartOfBody before after count
+ReadsBody before after count (Err fault) = ⊥
 
 -- what a read of the unit at a place did to its source, by the answer
 abbrev pub ReadsUnit : Option (List ℕ) → Option (List ℕ) → ℕ → Result (Option unit.Unit) UnitFault

@@ -1,6 +1,6 @@
 ghost use Rattle.std.specs.Prelude.{◌≡◌, ◌+◌, ◌<◌, ◌≤◌, ◌^◌, None, Err, IfNone, IfSome, IfOk};
 ghost use Rattle.vc_ports.specs.Faults.{HasCause};
-ghost use Rattle.vc_units.specs.Reading.{ReadsUnit, place_after_unit, fault_after_unit};
+ghost use Rattle.vc_units.specs.Reading.{ReadsBody, ReadsUnit, place_after_unit, fault_after_unit};
 ghost use Rattle.vc_units.specs.Units.{body_length};
 
 use crate::fault::UnitFault;
@@ -16,6 +16,9 @@ use vc_types::{
 
 // The most bytes that a unit may have.
 const LONGEST_UNIT: u32 = 268_435_456;
+
+// So many bytes of a body are read before it is known that there are any.
+const FIRST_PART: usize = 65_536;
 
 /// A source that is read unit by unit. It keeps the source borrowed, and contracts see what the source is
 /// now.
@@ -102,20 +105,35 @@ fn read_unit<S: Source>(
         Filled::Failed(_) => return Err(UnitFault::ReadFault),
     }
     let count = body_length(&info)?;
+    let body = read_body(alloc, source, count)?;
+    Ok(Some(Unit {
+        code: info[4],
+        at: place,
+        body,
+    }))
+}
+
+// Reads a body of so many bytes as they come: memory is taken for what has come, and once more as much.
+fn read_body<S: Source>(alloc: Global, source: &mut S, count: usize) -> Result<Vec<u8>, UnitFault>
+    requires { count ≤ 268435456 }
+    ensures body { ReadsBody (S.left source.old) (S.left source.new) count result }
+    ensures cause { HasCause (S.faults source.old) (S.faults source.new)
+        (result ≡ Err UnitFault.ReadFault) }
+{
     let mut body = Vec::new(alloc);
-    match body.resize(count, 0) {
-        Ok(()) => {}
-        Err(_) => return Err(UnitFault::NoMemory),
+    'parts: while body.len() < count {
+        let from = body.len();
+        match body.resize(count.min(2 * from + FIRST_PART), 0) {
+            Ok(()) => {}
+            Err(_) => return Err(UnitFault::NoMemory),
+        }
+        match fill(source, &mut body[from..]) {
+            Filled::Whole => {}
+            Filled::End(_) => return Err(UnitFault::Short),
+            Filled::Failed(_) => return Err(UnitFault::ReadFault),
+        }
     }
-    match fill(source, &mut body) {
-        Filled::Whole => Ok(Some(Unit {
-            code: info[4],
-            at: place,
-            body,
-        })),
-        Filled::End(_) => Err(UnitFault::Short),
-        Filled::Failed(_) => Err(UnitFault::ReadFault),
-    }
+    Ok(body)
 }
 
 // How many bytes the body behind a parse info header has. An end of sequence has none, whatever its distance.

@@ -8,6 +8,8 @@ pub mod PlaneSteps
 pub mod Copies
 pub mod Grids
 pub mod Fills
+mod LowCells
+mod BandRows
 mod RowHalves
 mod OutputRows
 mod HighestLevel

@@ -1,11 +1,12 @@
 -- Rows of samples that are put out: two samples more, one row more.
 use Rattle.std.proofs.Common.{◌≡◌, ℕ, ◌+◌, ◌*◌, ◌/◌, ◌%◌, ◌<◌, ◌≤◌, ◌⊎◌, inl, inr, List, length, set, ℤ}
-use Rattle.std.proofs.Common.{arith, ap, sym, ◌∙◌, slice_index_or}
+use Rattle.std.proofs.Common.{arith, ap, sym, ◌∙◌, slice_index_or, Option}
+use Rattle.std.proofs.Math.Nat.{mul-le-mul_right}
 use Rattle.std.proofs.lemmas.Bool.{cases_eq}
 use Rattle.std.proofs.lemmas.List.{get_or-set_same, get_or-set_other}
 use Rattle.std.proofs.lemmas.Nat.{mul-add-lt}
 use Rattle.vc_types.specs.Lifting.{Line, line_of}
-use Rattle.vc_types.specs.Planes.{output_sample}
+use Rattle.vc_wave.specs.NarrowBounds.{HasBound, RowHasBound}
 use Rattle.vc_wave.specs.Planes.{plane_of}
 use Rattle.vc_wave.specs.Remade.{half_place}
 use Rattle.vc_wave.proofs.PlaneLines.{ReadsBelow}
@@ -29,28 +30,46 @@ module _ (at start half width : ℕ) (f : ℤ → ℕ) (cells : List ℤ) (sampl
       ≡ f (line_of cells (start + half_place half k))
   row_odd v one fits is k h = grind (arith, get_or-set_same, get_or-set_other, row_whole)
 
--- ---- one row more of a plane whose rows are left as they were until they are put together
+-- ---- one row more that is put out, where the rows at hand are left as they were until they are put together
 
-module _ (f : Line → Line) (pitch width columns depth y : ℕ) (reads : ReadsBelow width f)
-    (narrow : columns ≤ width) (wide : width ≤ pitch) (first cells : List ℤ) (old new : List ℕ)
-    (left : (i : ℕ) → y * pitch ≤ i → line_of cells i ≡ line_of first i)
+module _ {A : Type 0} (none : A) (g : ℤ → A) (f : Line → Line) (pitch width columns from to y : ℕ)
+    (reads : ReadsBelow width f) (narrow : columns ≤ width) (wide : width ≤ pitch) (first cells : List ℤ)
+    (old new : List A) (left : (i : ℕ) → (from + y) * pitch ≤ i → line_of cells i ≡ line_of first i)
     (on : (k : ℕ) → k < columns
-    → slice_index_or new (y * columns + k) 0
-    ≡ output_sample depth (f (λ j. line_of cells (y * pitch + j)) k))
-    (off : (i : ℕ) → (i < y * columns) ⊎ (y * columns + columns ≤ i)
-    → slice_index_or new i 0 ≡ slice_index_or old i 0) where
+    → slice_index_or new ((to + y) * columns + k) none ≡ g (f (λ j. line_of cells ((from + y) * pitch + j)) k))
+    (off : (i : ℕ) → (i < (to + y) * columns) ⊎ ((to + y) * columns + columns ≤ i)
+    → slice_index_or new i none ≡ slice_index_or old i none) where
   pub rows_put : ((x t : ℕ) → x < columns → t < y
-      → slice_index_or old (t * columns + x) 0 ≡ output_sample depth (f (λ k. plane_of pitch first k t) x))
+      → slice_index_or old ((to + t) * columns + x) none ≡ g (f (λ k. plane_of pitch first k (from + t)) x))
       → (x t : ℕ) → x < columns → t < y + 1
-      → slice_index_or new (t * columns + x) 0 ≡ output_sample depth (f (λ k. plane_of pitch first k t) x)
+      → slice_index_or new ((to + t) * columns + x) none ≡ g (f (λ k. plane_of pitch first k (from + t)) x)
   rows_put before x t h lt = elim (cases_eq t y) [
     | inl e ↦ rw e (on x h
-        ∙ ap (output_sample depth)
-        (reads (λ j. line_of cells (y * pitch + j)) (λ k. plane_of pitch first k y)
-        (λ k under. left (y * pitch + k) (omega arith) ∙ sym (plane_in pitch first k y (omega arith))) x
-        (omega arith)))
+        ∙ ap g
+        (reads (λ j. line_of cells ((from + y) * pitch + j)) (λ k. plane_of pitch first k (from + y))
+        (λ k under. left ((from + y) * pitch + k) (omega arith)
+        ∙ sym (plane_in pitch first k (from + y) (omega arith))) x (omega arith)))
     | inr ne ↦ (
         let earlier : t < y = omega arith in
-        let above = mul-add-lt t columns x y earlier h in
-        off (t * columns + x) (inl (omega (arith, above))) ∙ before x t h earlier)
+        let above = mul-add-lt (to + t) columns x (to + y) (omega arith) h in
+        off ((to + t) * columns + x) (inl (omega (arith, above))) ∙ before x t h earlier)
   ]
+
+  -- the rows above them are as they were
+  pub rows_above : (start : List A)
+      → ((i : ℕ) → i < to * columns → slice_index_or old i none ≡ slice_index_or start i none) → (i : ℕ)
+      → i < to * columns → slice_index_or new i none ≡ slice_index_or start i none
+  rows_above start before i h =
+      let above : to * columns ≤ (to + y) * columns = mul-le-mul_right columns (omega arith) in
+      off i (inl (omega (arith, above))) ∙ before i h
+
+-- a bound on all cells bounds a row that is still as it was
+pub left_bound : (carry : ℕ → Option ℕ) (start width : ℕ) (first cells : List ℤ)
+    → ((i : ℕ) → start ≤ i → line_of cells i ≡ line_of first i) → HasBound carry first
+    → RowHasBound carry cells start width
+left_bound carry start width first cells left bound = record {
+  most = bound.most;
+  after = bound.after;
+  small = λ k h. rw (left (start + k) (omega arith)) (bound.small (start + k));
+  fits = bound.fits;
+}

@@ -8,57 +8,23 @@ use Rattle.vc_types.specs.declared.video.Component.{Component}
 use Rattle.vc_types.specs.Lifting.{Line}
 use Rattle.vc_types.specs.Subbands.{padded_width, padded_height}
 use Rattle.vc_types.specs.TransformParameters.{Parameters}
-use Rattle.vc_types.specs.Transforms.{Cells, on_columns, on_rows, inverse_level, forward_level, levels_across}
-use Rattle.vc_types.specs.Transforms.{inverse_levels, forward_levels, lowest_width, lowest_height}
-use Rattle.vc_types.specs.Wavelets.{is_shifted, synthesised, analysed}
-use Rattle.vc_wave.specs.declared.pass.Direction.TheVariants.{Synthesis, Analysis}
+use Rattle.vc_types.specs.Transforms.{Cells, on_columns, on_rows, forward_level}
+use Rattle.vc_types.specs.Transforms.{forward_levels, lowest_width, lowest_height}
+use Rattle.vc_types.specs.Wavelets.{is_shifted, analysed}
+use Rattle.vc_wave.specs.declared.pass.Direction.TheVariants.{Analysis}
 use Rattle.vc_wave.specs.Layout.{laid_out, row_in_turn}
 use Rattle.vc_wave.specs.Planes.{HasRoom, plane_of}
-use Rattle.vc_wave.specs.Remade.{remade, halves_together, halves_apart, level_in_turn, parted_in_turn}
+use Rattle.vc_wave.specs.Remade.{remade, halves_together, halves_apart, parted_in_turn}
 use Rattle.vc_wave.proofs.LayoutLaws.{laid_together, laid_after}
-use Rattle.vc_wave.proofs.Levels.{level_fits, twice_side, no_levels, next_level, no_forward, next_forward}
+use Rattle.vc_wave.proofs.Levels.{level_fits, twice_side, no_forward, next_forward}
 use Rattle.vc_wave.proofs.Levels.{whole_room}
 use Rattle.vc_wave.proofs.PlaneLines.{on_columns-on_columns, on_columns-same}
-use Rattle.vc_wave.proofs.TransformLocality.{StaysIn, both_stay, columns_stay, rows_stay, levels_across_stay}
+use Rattle.vc_wave.proofs.TransformLocality.{StaysIn, both_stay, columns_stay, rows_stay}
 use Rattle.vc_wave.proofs.TransformLocality.{side_whole, less}
-use Rattle.vc_wave.proofs.Weaving.{remade_pass, synthesis_pass, analysis_pass, remade_merged, remade_parted}
-use Rattle.vc_wave.proofs.Weaving.{halves_apart-halves_together, inverse_level_remade, forward_level_remade}
+use Rattle.vc_wave.proofs.Weaving.{remade_pass, analysis_pass, remade_parted}
+use Rattle.vc_wave.proofs.Weaving.{halves_apart-halves_together, forward_level_remade}
 
 -- ---- a level
-
-module _ (vertical horizontal w h : ℕ) where
-  abbrev rows_together : Cells → Cells
-  rows_together = on_rows (remade Synthesis horizontal (is_shifted horizontal) w) (2 * h)
-
-  in_turn_stays : StaysIn (2 * w) (2 * h) (level_in_turn vertical horizontal w h)
-  unfolding level_in_turn
-  in_turn_stays =
-      both_stay (2 * w) (2 * h) rows_together (on_columns (synthesised vertical (2 * h)) (2 * w))
-      (rows_stay (2 * w) (2 * h) (remade Synthesis horizontal (is_shifted horizontal) w) (2 * h) (2 * w)
-      (remade_pass Synthesis horizontal (is_shifted horizontal) w) (omega arith) (omega arith))
-      (columns_stay (2 * w) (2 * h) (synthesised vertical (2 * h)) (2 * w) (2 * h) (synthesis_pass vertical h)
-      (omega arith) (omega arith))
-
-  -- with its rows in turn, it is the level of the nested subbands
-  pub in_turn_level : (c : Cells)
-      → level_in_turn vertical horizontal w h (on_columns (halves_together h) (2 * w) c)
-      ≡ inverse_level vertical horizontal w h c
-  unfolding level_in_turn
-  in_turn_level c =
-      ap rows_together (on_columns-on_columns (synthesised vertical (2 * h)) (halves_together h) (2 * w) c)
-      ∙ ap (λ (f : Line → Line). rows_together (on_columns f (2 * w) c)) (remade_merged vertical h)
-      ∙ sym (inverse_level_remade vertical horizontal w h c)
-
-  module _ (left stride : ℕ) (old new : List ℤ) (wide : 2 * w ≤ stride) where
-    level_laid : plane_of (stride * 2 ^ left) new
-        ≡ level_in_turn vertical horizontal w h (plane_of (stride * 2 ^ left) old)
-        → laid_out left (2 * w) (2 * h) (plane_of stride new)
-        ≡ inverse_level vertical horizontal w h (laid_out (suc left) w h (plane_of stride old))
-    level_laid made =
-        laid_after (level_in_turn vertical horizontal w h) (2 * w) (2 * h) left (2 * w) (2 * h) stride
-        (omega arith) (omega arith) wide in_turn_stays old new made
-        ∙ ap (level_in_turn vertical horizontal w h) (laid_together left w h (plane_of stride old))
-        ∙ in_turn_level (laid_out (suc left) w h (plane_of stride old))
 
 module _ (wavelet w h : ℕ) where
   abbrev rows_apart : Cells → Cells
@@ -98,46 +64,7 @@ module _ (wavelet w h : ℕ) where
         ∙ laid_after (parted_in_turn wavelet w h) (2 * w) (2 * h) level (2 * w) (2 * h) stride
         (omega arith) (omega arith) wide parted_stays old new made)
 
--- levels across alone
-pub across_laid : (wavelet e levels w h stride : ℕ) (old new : List ℤ) → w * 2 ^ e ≤ stride
-    → plane_of (stride * 2 ^ levels) new ≡ levels_across wavelet e w h (plane_of (stride * 2 ^ levels) old)
-    → laid_out levels (w * 2 ^ e) h (plane_of stride new)
-    ≡ levels_across wavelet e w h (laid_out levels (w * 2 ^ e) h (plane_of stride old))
-across_laid wavelet e levels w h stride =
-    λ old new wide. laid_after (levels_across wavelet e w h) (w * 2 ^ e) h levels (w * 2 ^ e) h stride
-    (omega arith) (omega arith) wide
-    (levels_across_stay w h (w * 2 ^ e) h wavelet e (omega arith) (omega arith)) old new
-
--- ---- levels in turn, from the lowest up
-
-module _ (vertical horizontal levels w h stride : ℕ) (first : Cells) where
-  -- so many levels are put together
-  abbrev pub AreLaid : ℕ → List ℤ → Type 0
-  AreLaid n cells =
-      laid_out (levels - n) (w * 2 ^ n) (h * 2 ^ n) (plane_of stride cells)
-      ≡ inverse_levels vertical horizontal n w h first
-
-  pub first_laid : (cells : List ℤ) → laid_out levels w h (plane_of stride cells) ≡ first → AreLaid 0 cells
-  first_laid cells is = grind (arith, no_levels)
-
-  pub next_laid : (n : ℕ) (old new : List ℤ) → n < levels → w * 2 ^ levels ≤ stride → AreLaid n old
-      → (pitch columns rows : ℕ) → pitch ≡ stride * 2 ^ (levels - 1 - n) → columns ≡ w * 2 ^ n
-      → rows ≡ h * 2 ^ n
-      → plane_of pitch new ≡ level_in_turn vertical horizontal columns rows (plane_of pitch old)
-      → AreLaid (n + 1) new
-  next_laid n old new lt wide so_far pitch columns rows apart across down made =
-      let left = levels - 1 - n in
-      let rest : levels - (n + 1) ≡ left = omega arith in
-      let before : levels - n ≡ suc left = omega arith in
-      let fits = level_fits w n levels lt in
-      rw (rest, twice_side w n, twice_side h n)
-      (next_level vertical horizontal n w h first
-      (laid_out (suc left) (w * 2 ^ n) (h * 2 ^ n) (plane_of stride old))
-      (laid_out left (2 * (w * 2 ^ n)) (2 * (h * 2 ^ n)) (plane_of stride new)) (rw before at so_far)
-      (level_laid vertical horizontal (w * 2 ^ n) (h * 2 ^ n) left stride old new (omega (arith, fits, wide))
-      (rw (apart, across, down) at made)))
-
--- ---- and from the highest down
+-- ---- levels in turn, from the highest down
 
 module _ (wavelet levels w h stride : ℕ) (whole : Cells) where
   -- so many levels are taken apart
@@ -197,7 +124,7 @@ regroup h stride a b = omega arith
 module _ (w h levels stride cells line : ℕ)
     (room : HasRoom (w * 2 ^ levels) (h * 2 ^ levels) stride cells 0 line) where
   -- a level has room among all of them
-  pub turn_room : (n : ℕ) → n < levels
+  turn_room : (n : ℕ) → n < levels
       → HasRoom (2 * (w * 2 ^ n)) (2 * (h * 2 ^ n)) (stride * 2 ^ (levels - 1 - n)) cells 0 line
   turn_room n lt =
       let wide = level_fits w n levels lt in
@@ -217,20 +144,6 @@ module _ (w h levels stride cells line : ℕ)
   parted_room n lt =
       let back : levels - 1 - (levels - 1 - n) ≡ n = omega arith in
       rw back at (turn_room (levels - 1 - n) (omega arith))
-
--- the levels across alone, whose rows stand as far apart as there are rows of each
-pub apart_room : (w h e d stride cells line : ℕ) → HasRoom (w * 2 ^ e * 2 ^ d) (h * 2 ^ d) stride cells 0 line
-    → HasRoom (w * 2 ^ e) h (stride * 2 ^ d) cells 0 line
-apart_room w h e d stride cells line room =
-    let across = less (w * 2 ^ e) d (w * 2 ^ e * 2 ^ d) (omega arith) in
-    let more = stride_less stride d in
-    let there : h * (stride * 2 ^ d) ≡ h * 2 ^ d * stride = omega arith in
-    record {
-      across = omega (arith, across, room.across, more);
-      down = omega (arith, there, room.down);
-      row = omega (arith, across, room.row);
-      side_by_side = omega arith;
-    }
 
 -- ---- a component
 

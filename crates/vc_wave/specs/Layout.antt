@@ -1,6 +1,6 @@
 -- Subbands whose rows are taken in turn, so that a level finds the rows that it synthesises in
 -- their order.
-use Rattle.std.specs.Prelude.{ℕ, zero, suc, ◌-◌, ◌*◌, ◌^◌, if◌then◌else◌, List, ℤ}
+use Rattle.std.specs.Prelude.{ℕ, zero, suc, ◌*◌, ◌^◌, if◌then◌else◌, List, ℤ}
 use Rattle.vc_types.specs.declared.video.Component.{Component}
 use Rattle.vc_types.specs.TransformParameters.{Parameters}
 use Rattle.vc_types.specs.Transforms.{Cells, is_within, source_of, lowest_width, lowest_height, levels_across}
@@ -35,10 +35,3 @@ after_levels p c count nested =
     inverse_levels p.wavelet p.wavelet_ho count
     (lowest_width p c * 2 ^ p.depth_ho) (lowest_height p c)
     (levels_across p.wavelet_ho p.depth_ho (lowest_width p c) (lowest_height p c) nested)
-
--- the nested subbands of the levels above those, in cells that are kept row by row
-abbrev pub nested_above : Parameters → Component → ℕ → ℕ → List ℤ → Cells
-nested_above p c count stride cells =
-    laid_out (p.depth - count)
-    (lowest_width p c * 2 ^ p.depth_ho * 2 ^ count) (lowest_height p c * 2 ^ count)
-    (plane_of stride cells)

@@ -3,5 +3,6 @@ pub mod Lines
 pub mod Remade
 pub mod Samples
 pub mod Layout
+pub mod Parts
 pub mod NarrowBounds
 pub mod ForwardBounds

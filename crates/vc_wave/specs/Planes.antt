@@ -19,11 +19,3 @@ pub record HasRoom (columns rows stride cells block scratch : ℕ) : Type 0 wher
   pub down : rows * stride ≤ cells
   pub row : columns ≤ scratch
   pub side_by_side : rows * block ≤ scratch
-
--- The samples of a level whose subbands have w columns and h rows fill a plane of so many columns and
--- rows, and its cells are inside a plane of so many.
-pub record FillsPlane (w h columns rows pitch cells : ℕ) : Type 0 where
-  pub wide : columns ≤ 2 * w
-  pub high : rows ≤ 2 * h
-  pub across : 2 * w ≤ pitch
-  pub down : 2 * h * pitch ≤ cells

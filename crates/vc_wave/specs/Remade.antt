@@ -49,12 +49,6 @@ remade Synthesis wavelet shifted half l =
 remade Analysis wavelet shifted half l =
     parted wavelet half (on_samples doubled shifted (2 * half) l)
 
--- a level both ways whose rows, the low and the high ones, stand in turn already
-unfoldable pub level_in_turn : ℕ → ℕ → ℕ → ℕ → Cells → Cells
-level_in_turn vertical horizontal w h cells =
-    on_rows (remade Synthesis horizontal (is_shifted horizontal) w) (2 * h)
-    (on_columns (synthesised vertical (2 * h)) (2 * w) cells)
-
 -- a level of the forward transform that leaves its rows, the low and the high ones, in turn
 unfoldable pub parted_in_turn : ℕ → ℕ → ℕ → Cells → Cells
 parted_in_turn wavelet w h cells =

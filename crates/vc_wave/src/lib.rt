@@ -3,15 +3,18 @@
 #![tactic(auto)]
 
 mod analysis;
+mod bands;
 mod bounds;
 mod extents;
 mod forward_bounds;
 mod laws;
 mod level;
 mod lines;
+mod lower;
 mod narrow;
 mod narrow_analysis;
 mod output;
+mod parts;
 mod pass;
 mod shift;
 mod sides;
@@ -22,6 +25,6 @@ pub use analysis::forward;
 pub use forward_bounds::forward_fits_narrow;
 pub use laws::inverse_undoes_forward;
 pub use narrow_analysis::forward_narrow;
-pub use output::{Format, inverse_output};
+pub use output::{Format, inverse_output, room_len};
 pub use synthesis::inverse;
-pub use turn::{Nesting, nesting_of, row_in_turn, turn_rows};
+pub use turn::{Nesting, nesting_of, row_in_turn};

@@ -1,25 +1,20 @@
-ghost use Rattle.std.specs.Prelude.{◌≡◌, ◌+◌, ◌-◌, ◌*◌, ◌^◌, ◌<◌, ◌≤◌, ℕ, IfSome, true, if◌then◌else◌};
+ghost use Rattle.std.specs.Prelude.{◌≡◌, ◌+◌, ◌*◌, ◌^◌, ◌<◌, ◌≤◌, ℕ, IfSome, true, if◌then◌else◌};
 ghost use Rattle.std.specs.Prelude.{length, unsigned_abs};
 ghost use Rattle.vc_types.specs.Lifting.{line_of};
-ghost use Rattle.vc_types.specs.Subbands.{padded_width, padded_height};
-ghost use Rattle.vc_types.specs.TransformParameters.{parameters_of};
 ghost use Rattle.vc_types.specs.Transforms.{halved, on_columns, on_rows, levels_across};
-ghost use Rattle.vc_types.specs.Transforms.{inverse_levels};
 ghost use Rattle.vc_types.specs.Wavelets.{is_shifted, synthesised};
 ghost use Rattle.vc_lift.specs.Ranges.{narrow_bound};
 ghost use Rattle.vc_wave.specs.declared.pass.Direction.TheVariants.{Synthesis};
-ghost use Rattle.vc_wave.specs.Layout.{laid_out, nested_in, nested_above, after_levels};
 ghost use Rattle.vc_wave.specs.Lines.{IsRowMade};
 ghost use Rattle.vc_wave.specs.NarrowBounds.{AreWithin, HasBound, RowHasBound, rows_bound};
 ghost use Rattle.vc_wave.specs.Planes.{HasRoom, plane_of};
-ghost use Rattle.vc_wave.specs.Remade.{halves_together, on_samples, remade, level_in_turn};
+ghost use Rattle.vc_wave.specs.Remade.{halves_together, on_samples, remade};
 
-use crate::bounds::{columns_reach, greatest, rows_reach};
-use crate::extents::{Level, Levels, Rows, levels_of};
+use crate::bounds::rows_reach;
+use crate::extents::{Level, Rows};
 use crate::shift::is_shifted;
-use crate::sides::{lowest, side_at};
+use crate::sides::side_at;
 use vc_lift::{Halves, synth_narrow};
-use vc_types::{Component, Plan};
 
 /// A sample shifted down by one bit, rounded, if that is wanted.
 #[inline(always)]
@@ -115,35 +110,10 @@ pub(crate) fn merge_columns(level: Level, cells: &mut [i32])
     synth_narrow(level.wavelets.down, cells, &halves, 2 * level.w);
 }
 
-// Puts a level together whose low and high rows stand in turn. From a bound on all cells it tells one on them
-// after it; none where 32 bits may not be enough.
-fn merge_level(level: Level, cells: &mut [i32], line: &mut [i32], most: u64) -> Option<u64>
-    requires room { HasRoom (2 * level.w) (2 * level.h) level.pitch (length cells.old) 0
-        (length line.old) }
-    requires most { most < 2 ^ 31 }
-    requires within { AreWithin most cells.old }
-    ensures made { IfSome result (λ after. plane_of level.pitch cells.new
-        ≡ level_in_turn level.wavelets.down level.wavelets.across level.w level.h
-        (plane_of level.pitch cells.old)) }
-    ensures within { IfSome result (λ after. AreWithin after cells.new) }
-    ensures small { IfSome result (λ after. after < 2 ^ 31) }
-{
-    let made = columns_reach(level.wavelets.down, cells, most)?;
-    merge_columns(level, cells);
-    let after = rows_reach(level.wavelets.across, cells, made)?;
-    let rows = Rows {
-        wavelet: level.wavelets.across,
-        pitch: level.pitch,
-        count: 2 * level.h,
-        half: level.w,
-    };
-    merge_rows(rows, cells, line);
-    Some(after)
-}
-
-// Puts so many levels across alone together, the lowest of which has these rows. Bounds as above.
+/// Puts so many levels across alone together, the lowest of which has these rows. From a bound on all cells it
+/// tells one on them after it; none where 32 bits may not be enough.
 #[tactic(auto, using(crate::proofs::Levels::level_fits, crate::proofs::Levels::level_some))]
-fn merge_across(
+pub(crate) fn merge_across(
     rows: Rows,
     levels: u8,
     cells: &mut [i32],
@@ -174,75 +144,4 @@ fn merge_across(
         merge_rows(here, cells, line);
     }
     Some(bound)
-}
-
-// Puts the first levels both ways together of nested subbands whose rows are taken in turn. Bounds as above.
-#[tactic(auto, using(crate::proofs::Levels::level_fits, crate::proofs::Levels::level_some))]
-fn merge_levels(
-    levels: Levels,
-    count: u8,
-    cells: &mut [i32],
-    line: &mut [i32],
-    most: u64,
-) -> Option<u64>
-    requires count { count ≤ levels.nesting.levels }
-    requires room { HasRoom (levels.nesting.w * 2 ^ levels.nesting.levels)
-        (levels.nesting.h * 2 ^ levels.nesting.levels) levels.pitch (length cells.old) 0
-        (length line.old) }
-    requires most { most < 2 ^ 31 }
-    requires within { AreWithin most cells.old }
-    ensures made { IfSome result (λ after.
-        laid_out (levels.nesting.levels - count) (levels.nesting.w * 2 ^ count)
-        (levels.nesting.h * 2 ^ count) (plane_of levels.pitch cells.new)
-        ≡ inverse_levels levels.wavelets.down levels.wavelets.across count levels.nesting.w
-        levels.nesting.h
-        (laid_out levels.nesting.levels levels.nesting.w levels.nesting.h
-        (plane_of levels.pitch cells.old))) }
-    ensures within { IfSome result (λ after. AreWithin after cells.new) }
-    ensures small { IfSome result (λ after. after < 2 ^ 31) }
-{
-    let mut bound = most;
-    for n in 0..count {
-        let pitch = side_at(levels.pitch, levels.nesting.levels - 1 - n);
-        bound = merge_level(levels.level(n, pitch), cells, line, bound)?;
-    }
-    Some(bound)
-}
-
-/// Puts the levels across alone of a component together, and all both ways but the highest, in place and in
-/// 32 bits (ST 2042-1, inverse wavelet transform). The coefficients stand in rows of `stride` cells, whose
-/// rows are taken in turn as `nested_in` says. It tells a bound on all cells after that; none where 32 bits
-/// may not be enough, and then the cells hold nothing of use. The line is room to work in, as long as a row.
-pub(crate) fn merge_below(
-    plan: &Plan,
-    c: Component,
-    cells: &mut [i32],
-    stride: usize,
-    line: &mut [i32],
-) -> Option<u64>
-    requires stride { padded_width (parameters_of plan.now) c ≤ stride }
-    requires cells { padded_height (parameters_of plan.now) c * stride ≤ length cells.old }
-    requires line { padded_width (parameters_of plan.now) c ≤ length line.old }
-    ensures made { IfSome result (λ after.
-        nested_above (parameters_of plan.now) c (plan.now.depth - 1) stride cells.new
-        ≡ after_levels (parameters_of plan.now) c (plan.now.depth - 1)
-        (nested_in (parameters_of plan.now) c stride cells.old)) }
-    ensures within { IfSome result (λ after. AreWithin after cells.new) }
-    ensures small { IfSome result (λ after. after < 2 ^ 31) }
-{
-    let most = u64::from(greatest(cells));
-    if most >= 1 << 31 {
-        return None;
-    }
-    let levels = levels_of(plan, c, stride);
-    let (w, h) = lowest(plan, c);
-    let pitch = side_at(stride, plan.depth);
-    let rows = Rows {
-        wavelet: plan.wavelet_ho,
-        pitch,
-        count: h,
-        half: w,
-    };
-    let most = merge_across(rows, plan.depth_ho, cells, line, most)?;
-    merge_levels(levels, plan.depth - 1, cells, line, most)
 }

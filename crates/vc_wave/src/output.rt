@@ -5,18 +5,23 @@ ghost use Rattle.vc_types.specs.Planes.{output_sample};
 ghost use Rattle.vc_types.specs.Subbands.{plane_width, plane_height, plane_depth, padded_width};
 ghost use Rattle.vc_types.specs.Subbands.{padded_height};
 ghost use Rattle.vc_types.specs.TransformParameters.{parameters_of};
-ghost use Rattle.vc_types.specs.Transforms.{inverse_transform};
+ghost use Rattle.vc_types.specs.Transforms.{inverse_level, inverse_transform};
 ghost use Rattle.vc_types.specs.Wavelets.{is_shifted};
+ghost use Rattle.vc_lift.specs.Reach.{HoldsPairs};
 ghost use Rattle.vc_wave.specs.declared.pass.Direction.TheVariants.{Synthesis};
-ghost use Rattle.vc_wave.specs.Layout.{nested_in};
-ghost use Rattle.vc_wave.specs.NarrowBounds.{AreWithin, HasBound, RowHasBound, rows_bound};
-ghost use Rattle.vc_wave.specs.Planes.{FillsPlane, plane_of};
-ghost use Rattle.vc_wave.specs.Remade.{half_place, remade, shifted_down, level_in_turn};
+ghost use Rattle.vc_wave.specs.NarrowBounds.{HasBound, RowHasBound, rows_bound};
+ghost use Rattle.vc_wave.specs.Parts.{subbands_of, AreAtMost, pairs_held, held, room_length};
+ghost use Rattle.vc_wave.specs.Parts.{highest_width, highest_height};
+ghost use Rattle.vc_wave.specs.Planes.{plane_of};
+ghost use Rattle.vc_wave.specs.Remade.{half_place, remade, shifted_down};
 
-use crate::bounds::{columns_reach, rows_reach};
+use crate::bands::{band_from, pairs_held, synth_band};
 use crate::extents::{Level, Rows, levels_of};
-use crate::narrow::{merge_below, merge_columns, shifted_down};
+use crate::lower::merge_below;
+use crate::narrow::shifted_down;
+use crate::parts::{Band, Span, Subbands};
 use crate::shift::is_shifted;
+use vc_geometry::padded;
 use vc_lift::{Halves, synth_narrow};
 use vc_types::{Component, Plan};
 
@@ -114,88 +119,172 @@ fn put_row(
     weave_samples(samples, at, cells, start, half, is_shifted(wavelet), format);
 }
 
-// Puts the halves of rows together, as many as the plane has, and fills the plane with their samples.
-fn put_rows(rows: Rows, cells: &mut [i32], samples: &mut [u16], format: Format)
+// Puts the halves of some rows together, and puts their samples into rows of the plane.
+fn put_rows(rows: Rows, span: Span, cells: &mut [i32], samples: &mut [u16], format: Format)
     requires depth { (1 ≤ format.depth) × (format.depth ≤ 16) }
     requires width { format.columns ≤ 2 * rows.half }
-    requires height { format.rows ≤ rows.count }
     requires across { 2 * rows.half ≤ rows.pitch }
-    requires down { rows.count * rows.pitch ≤ length cells.old }
-    requires samples { length samples.old ≡ format.rows * format.columns }
+    requires from { (span.first + span.count) * rows.pitch ≤ length cells.old }
+    requires to { (span.at + span.count) * format.columns ≤ length samples.old }
+    requires small { span.at + span.count < 2 ^ 62 }
     requires bound { HasBound (rows_bound rows.wavelet) cells.old }
-    ensures { (x y : ℕ) → x < format.columns → y < format.rows
-        → slice_index_or samples.new (y * format.columns + x) 0
+    ensures on { (x y : ℕ) → x < format.columns → y < span.count
+        → slice_index_or samples.new ((span.at + y) * format.columns + x) 0
         ≡ output_sample format.depth (remade Synthesis rows.wavelet (is_shifted rows.wavelet)
-        rows.half (λ k. plane_of rows.pitch cells.old k y) x) }
+        rows.half (λ k. plane_of rows.pitch cells.old k (span.first + y)) x) }
+    ensures before { (i : ℕ) → i < span.at * format.columns
+        → slice_index_or samples.new i 0 ≡ slice_index_or samples.old i 0 }
 {
-    for y in 0..format.rows {
+    for y in 0..span.count {
         put_row(
             rows.wavelet,
             cells,
-            y * rows.pitch,
+            (span.first + y) * rows.pitch,
             rows.half,
             samples,
-            y * format.columns,
+            (span.at + y) * format.columns,
             format,
         );
     }
 }
 
-// Puts the highest level together, whose low and high rows stand in turn, and fills the plane with the
-// samples, which are clipped. From a bound on all cells it tells whether 32 bits were enough.
-fn put_level(
-    level: Level,
-    cells: &mut [i32],
+// Makes a band of the highest level, and puts its samples, clipped, into rows of the plane that lie below so
+// many pairs of the level's rows. From a bound on all cells of the subbands it tells whether 32 bits were
+// enough.
+fn put_band(
+    subbands: &Subbands<'_>,
+    band: &Band,
+    window: &mut [i32],
     most: u64,
+    above: usize,
     samples: &mut [u16],
     format: Format,
 ) -> bool
-    requires depth { (1 ≤ format.depth) × (format.depth ≤ 16) }
-    requires plane { FillsPlane level.w level.h format.columns format.rows level.pitch
-        (length cells.old) }
-    requires samples { length samples.old ≡ format.rows * format.columns }
+    requires holds { HoldsPairs subbands.now.level.wavelets.down subbands.now.level.h
+        band.now.from band.now.to band.now.first band.now.pairs }
+    requires window { length window.old ≡ 2 * band.now.pairs * (2 * subbands.now.level.w) }
     requires most { most < 2 ^ 31 }
-    requires within { AreWithin most cells.old }
-    ensures { result ≡ true → (x y : ℕ) → x < format.columns → y < format.rows
+    requires within { AreAtMost most (subbands_of subbands.now) }
+    requires depth { (1 ≤ format.depth) × (format.depth ≤ 16) }
+    requires width { format.columns ≤ 2 * subbands.now.level.w }
+    requires height { 2 * above + format.rows ≤ 2 * subbands.now.level.h }
+    requires order { (above ≤ band.now.from) × (band.now.from < band.now.to) }
+    requires some { 2 * band.now.from < 2 * above + format.rows }
+    requires samples { length samples.old ≡ format.rows * format.columns }
+    ensures made { result ≡ true → (x y : ℕ) → x < format.columns
+        → 2 * (band.now.from - above) ≤ y → y < 2 * (band.now.to - above) → y < format.rows
         → slice_index_or samples.new (y * format.columns + x) 0
-        ≡ output_sample format.depth
-        (level_in_turn level.wavelets.down level.wavelets.across level.w level.h
-        (plane_of level.pitch cells.old) x y) }
+        ≡ output_sample format.depth (inverse_level subbands.now.level.wavelets.down
+        subbands.now.level.wavelets.across subbands.now.level.w subbands.now.level.h
+        (subbands_of subbands.now) x (2 * above + y)) }
+    ensures before { (i : ℕ) → i < 2 * (band.now.from - above) * format.columns
+        → slice_index_or samples.new i 0 ≡ slice_index_or samples.old i 0 }
 {
-    let Some(made) = columns_reach(level.wavelets.down, cells, most) else {
+    let Some(_after) = synth_band(subbands, band, window, most) else {
         return false;
     };
-    merge_columns(level, cells);
-    let Some(_after) = rows_reach(level.wavelets.across, cells, made) else {
-        return false;
-    };
+    let level = subbands.level;
     let rows = Rows {
         wavelet: level.wavelets.across,
-        pitch: level.pitch,
-        count: 2 * level.h,
+        pitch: 2 * level.w,
+        count: 2 * band.pairs,
         half: level.w,
     };
-    put_rows(rows, cells, samples, format);
+    let end = (2 * above + format.rows).min(2 * band.to);
+    let span = Span {
+        first: 2 * (band.from - band.first),
+        at: 2 * (band.from - above),
+        count: end - 2 * band.from,
+    };
+    put_rows(rows, span, window, samples, format);
     true
+}
+
+// Makes rows of the highest level, below so many pairs of them, band by band, and fills a plane of as many
+// rows with their samples, which are clipped. From a bound on all cells of the subbands it tells whether 32
+// bits were enough.
+fn put_level(
+    subbands: &Subbands<'_>,
+    room: &mut [i32],
+    most: u64,
+    above: usize,
+    samples: &mut [u16],
+    format: Format,
+) -> bool
+    requires room { 2 * pairs_held subbands.now.level.wavelets.down * (2 * subbands.now.level.w)
+        ≤ length room.old }
+    requires most { most < 2 ^ 31 }
+    requires within { AreAtMost most (subbands_of subbands.now) }
+    requires depth { (1 ≤ format.depth) × (format.depth ≤ 16) }
+    requires width { format.columns ≤ 2 * subbands.now.level.w }
+    requires height { 2 * above + format.rows ≤ 2 * subbands.now.level.h }
+    requires samples { length samples.old ≡ format.rows * format.columns }
+    ensures { result ≡ true → (x y : ℕ) → x < format.columns → y < format.rows
+        → slice_index_or samples.new (y * format.columns + x) 0
+        ≡ output_sample format.depth (inverse_level subbands.now.level.wavelets.down
+        subbands.now.level.wavelets.across subbands.now.level.w subbands.now.level.h
+        (subbands_of subbands.now) x (2 * above + y)) }
+{
+    let level = subbands.level;
+    let mut pair = above;
+    while 2 * pair < 2 * above + format.rows {
+        let band = band_from(level.wavelets.down, level.h, pair);
+        let window = &mut room[..2 * band.pairs * (2 * level.w)];
+        if !put_band(subbands, &band, window, most, above, samples, format) {
+            return false;
+        }
+        pair = band.to;
+    }
+    true
+}
+
+// The highest level of a component, in rows of the padded width.
+fn highest(plan: &Plan, c: Component) -> Level
+    ensures down { result.wavelets.down ≡ plan.now.wavelet }
+    ensures across { result.wavelets.across ≡ plan.now.wavelet_ho }
+    ensures pitch { result.pitch ≡ padded_width (parameters_of plan.now) c }
+    ensures w { result.w ≡ highest_width (parameters_of plan.now) c }
+    ensures h { result.h ≡ highest_height (parameters_of plan.now) c }
+    ensures columns { 2 * result.w ≡ padded_width (parameters_of plan.now) c }
+    ensures rows { 2 * result.h ≡ padded_height (parameters_of plan.now) c }
+    ensures small { (result.w ≤ 4096) × (result.h ≤ 4096) }
+{
+    let (stride, _) = padded(plan, c);
+    let levels = levels_of(plan, c, stride as usize);
+    levels.level(plan.depth - 1, stride as usize)
+}
+
+/// How many cells `inverse_output` needs to work in.
+pub fn room_len(plan: &Plan, c: Component) -> usize
+    ensures { result ≡ room_length (parameters_of plan.now) c }
+{
+    let level = highest(plan, c);
+    2 * (level.h * level.w) + 2 * pairs_held(plan.wavelet) * (2 * level.w)
+}
+
+// Which of two lists has the samples below a level, where each level goes from one to the other.
+fn held<'a>(level: u8, first: &'a [i32], second: &'a [i32]) -> &'a [i32]
+    ensures { result.now ≡ held level first.now second.now }
+{
+    if level % 2 == 0 { first } else { second }
 }
 
 /// The samples of a component's plane from its coefficients, in 32 bits (ST 2042-1, inverse wavelet transform
 /// and picture output): without the padding, clipped, and with half of their range added. The coefficients
-/// stand in rows of `stride` cells, whose rows are taken in turn as `turn_rows` leaves them, and are of no
-/// use afterwards. The line is room to work in, as long as a row. It answers whether 32 bits were enough;
-/// where they weren't, the samples are of no use either.
+/// stand row by row in nested subbands of the padded size, and are only read. The room is to work in, and
+/// what is in it is of no use before or afterwards. It answers whether 32 bits were enough; where they weren't,
+/// the samples are of no use either.
 pub fn inverse_output(
     plan: &Plan,
     c: Component,
-    cells: &mut [i32],
-    stride: usize,
-    line: &mut [i32],
+    nested: &[i32],
+    room: &mut [i32],
     samples: &mut [u16],
     format: Format,
 ) -> bool
-    requires stride { padded_width (parameters_of plan.now) c ≤ stride }
-    requires cells { padded_height (parameters_of plan.now) c * stride ≤ length cells.old }
-    requires line { padded_width (parameters_of plan.now) c ≤ length line.old }
+    requires nested { padded_height (parameters_of plan.now) c
+        * padded_width (parameters_of plan.now) c ≤ length nested.now }
+    requires room { room_length (parameters_of plan.now) c ≤ length room.old }
     requires columns { format.columns ≡ plane_width plan.now.shape c }
     requires rows { format.rows ≡ plane_height plan.now.shape c }
     requires depth { format.depth ≡ plane_depth plan.now.shape c }
@@ -205,12 +294,19 @@ pub fn inverse_output(
     ensures { result ≡ true → (x y : ℕ) → x < format.columns → y < format.rows
         → slice_index_or samples.new (y * format.columns + x) 0
         ≡ output_sample format.depth (inverse_transform (parameters_of plan.now) c
-        (nested_in (parameters_of plan.now) c stride cells.old) x y) }
+        (plane_of (padded_width (parameters_of plan.now) c) nested.now) x y) }
 {
-    let Some(most) = merge_below(plan, c, cells, stride, line) else {
+    let level = highest(plan, c);
+    let count = level.h * level.w;
+    let (low, rest) = room.split_at_mut(count);
+    let (next, band) = rest.split_at_mut(count);
+    let Some(most) = merge_below(plan, c, nested, low, next, band) else {
         return false;
     };
-    let levels = levels_of(plan, c, stride);
-    let level = levels.level(plan.depth - 1, stride);
-    put_level(level, cells, most, samples, format)
+    let subbands = Subbands {
+        level,
+        low: held(plan.depth - 1, low, next),
+        nested,
+    };
+    put_level(&subbands, band, most, 0, samples, format)
 }
