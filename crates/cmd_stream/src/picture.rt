@@ -18,7 +18,7 @@ use bytes::Bytes;
 use picture_build::PictureBuilder;
 use std::alloc::Global;
 use std::thread::Threads;
-use vc_lowdelay::{LowPlan, LowRefusal, decode_low_joined, read_low_params};
+use vc_lowdelay::{LowPlan, LowRefusal, LowRoom, decode_low_kept, read_low_params};
 use vc_params::read_params;
 use vc_types::{Header, NoMemory, Plan, Plane};
 
@@ -32,15 +32,31 @@ pub(crate) struct Picture {
     pub(crate) planes: [Plane; 3],
 }
 
-/// The picture of a data unit's body; none where it is refused. The builder of high-quality pictures is kept
-/// from picture to picture.
+/// The memory that the last picture was decoded in.
+#[derive(Drop)]
+pub(crate) struct KeptMemory {
+    builder: Option<PictureBuilder>,
+    low: Option<LowRoom>,
+}
+
+impl KeptMemory {
+    /// None before the first picture.
+    pub(crate) fn new() -> KeptMemory {
+        KeptMemory {
+            builder: None,
+            low: None,
+        }
+    }
+}
+
+/// The picture of a data unit's body; none where it is refused. The memory is kept from picture to picture.
 #[tactic(auto, unfolding(crate::specs::Stream::picture_in))]
 pub(crate) fn read_picture<H: Threads + Copy + Send + Sync>(
     rt: H,
     alloc: Global,
     coding: Coding,
     header: &Header,
-    kept: &mut Option<PictureBuilder>,
+    kept: &mut KeptMemory,
     body: Vec<u8>,
 ) -> Result<Option<Picture>, NoMemory>
     ensures value { IfOk result (λ picture.
@@ -68,7 +84,7 @@ fn planes_by<H: Threads + Copy + Send + Sync>(
     alloc: Global,
     coding: Coding,
     header: &Header,
-    kept: &mut Option<PictureBuilder>,
+    kept: &mut KeptMemory,
     number: u32,
     bytes: Bytes,
 ) -> Result<Option<[Plane; 3]>, NoMemory>
@@ -78,8 +94,8 @@ fn planes_by<H: Threads + Copy + Send + Sync>(
         HaveShape (picture_shape (sequence_of header.now)) (planes_in p))) }
 {
     match coding {
-        Coding::HighQuality => read_planes(rt, alloc, header, kept, number, bytes),
-        Coding::LowDelay => read_low_planes(rt, alloc, header, bytes.as_slice()),
+        Coding::HighQuality => read_planes(rt, alloc, header, &mut kept.builder, number, bytes),
+        Coding::LowDelay => read_low_planes(rt, alloc, header, &mut kept.low, bytes.as_slice()),
     }
 }
 
@@ -88,6 +104,7 @@ fn read_low_planes<H: Threads + Copy + Send + Sync>(
     rt: H,
     alloc: Global,
     header: &Header,
+    kept: &mut Option<LowRoom>,
     bytes: &[u8],
 ) -> Result<Option<[Plane; 3]>, NoMemory>
     ensures value { IfOk result (λ planes. option_map planes_in planes
@@ -99,7 +116,7 @@ fn read_low_planes<H: Threads + Copy + Send + Sync>(
         return Ok(None);
     };
     let (_, slices) = bytes.split_at(used);
-    low_planes_of(rt, alloc, &plan, slices)
+    low_planes_of(rt, alloc, &plan, kept, slices)
 }
 
 // The planes of a low-delay picture's slices.
@@ -107,12 +124,19 @@ fn low_planes_of<H: Threads + Copy + Send + Sync>(
     rt: H,
     alloc: Global,
     plan: &LowPlan,
+    kept: &mut Option<LowRoom>,
     slices: &[u8],
 ) -> Result<Option<[Plane; 3]>, NoMemory>
     ensures value { IfOk result (λ planes. option_map planes_in planes
         ≡ if_decoded (low_planes (low_parameters_of plan.now) slices.now)) }
 {
-    match decode_low_joined(rt, alloc, plan, slices) {
+    let mut room = match kept.take() {
+        Some(room) => room,
+        None => LowRoom::new(alloc),
+    };
+    let planes = decode_low_kept(rt, alloc, plan, slices, &mut room);
+    *kept = Some(room);
+    match planes {
         Ok(planes) => Ok(Some(planes)),
         Err(LowRefusal::Short) => Ok(None),
         Err(LowRefusal::CoefficientRange) => Ok(None),

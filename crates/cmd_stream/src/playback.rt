@@ -12,11 +12,10 @@ ghost use Rattle.cmd_stream.specs.PlayViews.{playback_state, picture_of};
 
 use crate::coding::Coding;
 use crate::pairs::{is_pair, waits};
-use crate::picture::{Picture, read_picture};
+use crate::picture::{KeptMemory, Picture, read_picture};
 use crate::play_fault::TakeFault;
 use field_pairs::weave;
 use frame_writer::{is_wide, write_frame};
-use picture_build::PictureBuilder;
 use std::alloc::Global;
 use std::thread::Threads;
 use vc_ports::Sink;
@@ -32,8 +31,7 @@ pub(crate) struct Playback {
     pub(crate) waiting: Option<Picture>,
     pub(crate) pictures: u64,
     pub(crate) frames: u64,
-    // The memory that the last picture was built in.
-    builder: Option<PictureBuilder>,
+    kept: KeptMemory,
 }
 
 impl Playback {
@@ -70,7 +68,7 @@ impl Playback {
             waiting: None,
             pictures: 0,
             frames: 0,
-            builder: None,
+            kept: KeptMemory::new(),
         }
     }
 
@@ -102,7 +100,7 @@ impl Playback {
             × (self.new.frames ≤ self.new.pictures)) }
         ensures shape { OnOk result (HasShape (playback_state self.new)) }
     {
-        let kept = &mut self.builder;
+        let kept = &mut self.kept;
         let Some(picture) = read_picture(rt, alloc, self.coding, &self.header, kept, body)? else {
             return Err(TakeFault::Refused);
         };

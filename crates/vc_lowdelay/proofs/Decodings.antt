@@ -18,7 +18,7 @@ use Rattle.vc_lowdelay.proofs.GrownPictures.{grown_planes, length-slices}
 use Rattle.vc_lowdelay.proofs.LowAnswers.{is_decoded, length-low_slices, low_counts}
 use Rattle.vc_lowdelay.proofs.SliceStarts.{across, down}
 
-ok_same : (a b : Planes) → a ≡ b → ◌≡◌ {A = Result Planes LowRefusal} (Ok a) (Ok b)
+pub ok_same : (a b : Planes) → a ≡ b → ◌≡◌ {A = Result Planes LowRefusal} (Ok a) (Ok b)
 ok_same a b e = cc
 
 module _ (p : LowPlan) (bytes : List ℕ) where

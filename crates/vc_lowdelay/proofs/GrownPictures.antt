@@ -15,7 +15,7 @@ use Rattle.vc_types.specs.Planes.{component_plane, planes_of}
 use Rattle.vc_types.specs.Slices.{Coefficients, coefficients_of}
 use Rattle.vc_types.specs.Subbands.{Place, area, place_in, levels, padded_width, padded_height, slice_count, slice_coefficient_count, IsMetOnce}
 use Rattle.vc_types.specs.TransformParameters.{Parameters}
-use Rattle.vc_types.specs.Transforms.{Cells, is_within, inverse_transform, lowest_width, lowest_height}
+use Rattle.vc_types.specs.Transforms.{Cells, inverse_transform, lowest_width, lowest_height}
 use Rattle.vc_types.proofs.PlacesMet.{met_once}
 use Rattle.picture_build.specs.Kept.{no_coefficients}
 use Rattle.picture_build.specs.Output.{output_plane}
@@ -25,6 +25,7 @@ use Rattle.vc_lowdelay.specs.Grown.{Lowest, grown_lowest, grown_or, with_lowest,
 use Rattle.vc_lowdelay.specs.LowDelay.{predicted, predicted_cells, low_plane, low_planes_of}
 use Rattle.vc_lowdelay.proofs.LowestPlaces.{lowest_within, lowest_place, IsOfSlice, lowest_met}
 use Rattle.vc_lowdelay.proofs.PlacedValues.{lowest_inside}
+use Rattle.vc_lowdelay.proofs.PredictedCells.{within_true, within_false}
 
 -- ---- LL of a component
 
@@ -94,21 +95,6 @@ module _ (p : Parameters) (c : Component) (some_across : 0 < p.slices_x) (some_d
   counts_own : (k : ℕ) → k < length slices → length (coefficients_of (slice_index_or slices k no_coefficients) c) ≡ slice_coefficient_count p c (0 + k)
   counts_own k h = let first : k ≡ 0 + k = omega arith in counts k h ∙ ap (slice_coefficient_count p c) first
 
-  within_true : (x y : ℕ) → x < lowest_width p c → y < lowest_height p c → predicted_cells p c cells x y ≡ predicted cells x y
-  unfolding predicted_cells
-  within_true x y hx hy =
-      cond-true (is_within (lowest_width p c) (lowest_height p c) x y) (predicted cells x y) (cells x y)
-      (and_from (nat_lt x (lowest_width p c)) (nat_lt y (lowest_height p c)) (lt-ltb x (lowest_width p c) hx) (lt-ltb y (lowest_height p c) hy))
-
-  within_false : (x y : ℕ) → (x < lowest_width p c → y < lowest_height p c → ⊥) → predicted_cells p c cells x y ≡ cells x y
-  unfolding predicted_cells
-  within_false x y out = elim (cases_Bool (is_within (lowest_width p c) (lowest_height p c) x y)) [
-    | inl t ↦ (
-        let parts = and_parts (nat_lt x (lowest_width p c)) (nat_lt y (lowest_height p c)) t in
-        absurd (out (ltb-true x (lowest_width p c) parts.0) (ltb-true y (lowest_height p c) parts.1)))
-    | inr f ↦ cond-false (is_within (lowest_width p c) (lowest_height p c) x y) (predicted cells x y) (cells x y) f
-  ]
-
   -- in the padded grid
   module _ (x y : ℕ) (met : IsMetOnce p c x y) where
     abbrev own : Coefficients
@@ -138,13 +124,13 @@ module _ (p : Parameters) (c : Component) (some_across : 0 < p.slices_x) (some_d
           grown_cell
           ∙ cond-true (nat_lt met.number (area (lowest_rectangle p c met.slice))) (predicted cells place.0 place.1) (line_of (coefficients_of own c) met.number) (lt-ltb met.number (area (lowest_rectangle p c met.slice)) lt)
           ∙ ap (λ (q : Place). predicted cells q.0 q.1) here
-          ∙ sym (within_true x y (omega (arith, column, inside.0)) (omega (arith, row, inside.1))))
+          ∙ sym (within_true p c cells x y (omega (arith, column, inside.0)) (omega (arith, row, inside.1))))
       | inr ge ↦ (
           let place = place_in (lowest_rectangle p c met.slice) met.number in
           grown_cell
           ∙ cond-false (nat_lt met.number (area (lowest_rectangle p c met.slice))) (predicted cells place.0 place.1) (line_of (coefficients_of own c) met.number) (le-ltb met.number (area (lowest_rectangle p c met.slice)) ge)
           ∙ sym own_cell
-          ∙ sym (within_false x y (λ hx hy. (
+          ∙ sym (within_false p c cells x y (λ hx hy. (
           let at : IsOfSlice p c x y = lowest_met p c x y hx hy some_across some_down in
           let same = met.only at.slice at.number at.numbered (omega (arith, at.below, lowest_within p c at.slice)) (lowest_place p c at.slice at.number at.below ∙ at.place) in
           let less = subst (λ (k : ℕ). at.number < area (lowest_rectangle p c k)) same.0 at.below in
@@ -166,7 +152,7 @@ module _ (p : Parameters) (c : Component) (some_across : 0 < p.slices_x) (some_d
     | inr f ↦
         component_cells-outside p c some_across some_down no_coefficients (grown_slices p slices) (omega (arith, all_grown)) counts_grown x y f
         ∙ sym (component_cells-outside p c some_across some_down no_coefficients slices (omega (arith, all)) counts_own x y f)
-        ∙ sym (within_false x y (λ hx hy. both_ways (nat_lt x (padded_width p c) && nat_lt y (padded_height p c)) f
+        ∙ sym (within_false p c cells x y (λ hx hy. both_ways (nat_lt x (padded_width p c) && nat_lt y (padded_height p c)) f
         (and_from (nat_lt x (padded_width p c)) (nat_lt y (padded_height p c)) (lt-ltb x (padded_width p c) (omega (arith, hx, lowest_narrow))) (lt-ltb y (padded_height p c) (omega (arith, hy, lowest_low))))))
   ]
 

@@ -9,6 +9,7 @@ pub mod LowestPlaces
 pub mod PlacedValues
 pub mod RectReads
 pub mod LowCoefficients
+pub mod PredictedCells
 pub mod GrownPictures
 pub mod Soundness
 pub mod LowAnswers
@@ -26,3 +27,9 @@ pub mod PredictedValues
 pub mod LargeReads
 pub mod PutSlices
 pub mod SlicesPlaced
+pub mod CellRects
+pub mod SliceReads
+pub mod NarrowSlices
+pub mod LowestCopies
+pub mod KeptLowest
+pub mod HeldPictures

@@ -1,24 +1,19 @@
 -- The coefficients of a slice that was read, component by component, with LL as it has grown.
-use Rattle.std.proofs.Common.{◌≡◌, ℕ, ◌+◌, ◌*◌, ◌^◌, ◌<◌, ◌≤◌, false, List, length, get_or, ℤ, pos, unsigned_abs, refl, sym, ap, subst, ◌∙◌, arith}
+use Rattle.std.proofs.Common.{◌≡◌, ℕ, ◌^◌, ◌<◌, false, List, length, get_or, ℤ, pos, unsigned_abs, refl, sym, ap, subst, ◌∙◌, arith}
 use Rattle.std.specs.List.{list_any}
 use Rattle.std.proofs.lemmas.List.{ext_get_or}
 use Rattle.std.proofs.lemmas.List.Elements.{All-from_get_or}
 use Rattle.std.proofs.lemmas.List.Folds.{list_any_at, list_any_none}
 use Rattle.vc_types.specs.declared.video.Component.{Component}
 use Rattle.vc_types.specs.declared.video.Component.TheVariants.{Y, C1, C2}
-use Rattle.vc_types.specs.Bounded.{bounded_sints}
 use Rattle.vc_types.specs.Lifting.{line_of}
 use Rattle.vc_types.specs.Quantisation.{dequantised}
 use Rattle.vc_types.specs.Slices.{Coefficients, is_large, quantisers}
 use Rattle.vc_types.specs.TransformParameters.{Parameters}
 use Rattle.vc_types.specs.Transforms.{Cells}
 use Rattle.vc_golomb.specs.Numbers.{number_at}
-use Rattle.vc_golomb.proofs.NumberLists.{number_listed}
 use Rattle.vc_slice.specs.declared.bands.SliceBands.{SliceBands}
-use Rattle.vc_slice.specs.Bands.{coefficient_count, quantisers_of}
-use Rattle.vc_slice.specs.OneBlock.{three_parts}
-use Rattle.vc_slice.proofs.ColourParts.{colour_counts}
-use Rattle.vc_slice.proofs.WideSlices.{parts_by_place}
+use Rattle.vc_slice.specs.Bands.{coefficient_count}
 use Rattle.vc_lowdelay.specs.declared.bands.LowestBands.{LowestBands}
 use Rattle.vc_lowdelay.specs.declared.slice.LowSlice.{LowSlice}
 use Rattle.vc_lowdelay.specs.LowDelay as low
@@ -27,7 +22,7 @@ use Rattle.vc_lowdelay.specs.Bands.{value_in}
 use Rattle.vc_lowdelay.specs.Coded.{slice_of}
 use Rattle.vc_lowdelay.specs.Components.{AreGrown, ReadsLargeOf}
 use Rattle.vc_lowdelay.specs.Grown.{Lowest, grown_slice, lowest_in, with_lowest}
-use Rattle.vc_lowdelay.specs.OfBands.{IsLargeSlice, IsSliceOf, grown_in, parameters_in, read_in, turned_in}
+use Rattle.vc_lowdelay.specs.OfBands.{IsLargeSlice, IsSliceOf, grown_in, parameters_in, read_in}
 use Rattle.vc_lowdelay.specs.Placed.{place_of_number}
 use Rattle.vc_lowdelay.proofs.GrownValues.{coefficient, grown_same, length-with, with_at}
 use Rattle.vc_lowdelay.proofs.LowCoefficients.{block_of, length-low, low_at}
@@ -111,48 +106,3 @@ module _ (bands : SliceBands) (coded : LowSlice) (lowest : LowestBands) (index :
       small_of Y = gy.small
       small_of C1 = g1.small
       small_of C2 = g2.small
-
-  -- ---- one behind the other, the colours from their numbers in turn
-
-  module _ (turns : List ℤ) (read : (i : ℕ) → i < 2 * count C1 → line_of turns i ≡ line_of (bounded_sints (2 * count C1) s.colour) i) where
-    turn_read : (i : ℕ) → i < 2 * count C1 → line_of turns i ≡ number_at s.colour i
-    turn_read i h = read i h ∙ number_listed (2 * count C1) i s.colour h
-
-    first_read : (k : ℕ) → k < count C1 → turned_in bands C1 turns k ≡ read_in bands C1 (block_of s C1) k
-    first_read k h =
-        ap (λ (z : ℤ). dequantised z (get_or (quantisers_of bands C1) k 0))
-        (turn_read (2 * k + 0) (omega (arith, h)) ∙ (let same : 2 * k + 0 ≡ 2 * k = omega arith in ap (number_at s.colour) same))
-
-    second_read : (k : ℕ) → k < count C2 → turned_in bands C2 turns k ≡ read_in bands C2 (block_of s C2) k
-    second_read k h =
-        ap (λ (z : ℤ). dequantised z (get_or (quantisers_of bands C2) k 0))
-        (turn_read (2 * k + 1) (omega (arith, h, colour_counts p n)))
-
-    wider : (z x : ℤ) → z ≡ x → unsigned_abs z < 2 ^ 29 → unsigned_abs x < 2 ^ 60
-    wider z x e h = (let own : unsigned_abs x < 2 ^ 29 = subst (λ (v : ℤ). unsigned_abs v < 2 ^ 29) e h in omega (arith, own))
-
-    pub narrow_slice : (numbers : List ℤ) → count Y + 2 * count C1 ≤ length numbers
-        → ((i : ℕ) → i < count Y → line_of numbers i ≡ grown_in bands Y (kept Y) (read_in bands Y (block_of s Y)) i)
-        → ((i : ℕ) → i < count C1 → line_of numbers (count Y + i) ≡ grown_in bands C1 (kept C1) (turned_in bands C1 turns) i)
-        → ((i : ℕ) → i < count C2 → line_of numbers (count Y + count C1 + i) ≡ grown_in bands C2 (kept C2) (turned_in bands C2 turns) i)
-        → ((i : ℕ) → i < count Y → unsigned_abs (read_in bands Y (block_of s Y) i) < 2 ^ 29)
-        → ((i : ℕ) → i < count C1 → unsigned_abs (turned_in bands C1 turns i) < 2 ^ 29)
-        → ((i : ℕ) → i < count C2 → unsigned_abs (turned_in bands C2 turns i) < 2 ^ 29)
-        → IsSliceOf bands coded lowest (three_parts (count Y) (count C1) (count C1) numbers)
-    narrow_slice numbers room at0 at1 at2 n0 n1 n2 = record {
-      value = parts_by_place (count Y) (count C1) (count C1) (whole Y) (whole C1) (whole C2) (long Y) (long C1) (long C2 ∙ both) numbers (omega (arith, room))
-          (λ i h. at0 i h ∙ whole_at Y i h)
-          (λ i h. at1 i h ∙ grown_same p C1 n (kept C1) (turned_in bands C1 turns) (read_in bands C1 (block_of s C1)) i (first_read i h) ∙ whole_at C1 i h)
-          (λ i h. (let below : i < count C2 = omega (arith, h, both) in
-          at2 i below ∙ grown_same p C2 n (kept C2) (turned_in bands C2 turns) (read_in bands C2 (block_of s C2)) i (second_read i below) ∙ whole_at C2 i below))
-          ∙ whole_of p n (lowest_in lowest.y lowest.c1 lowest.c2) s;
-      sound = λ c. small_sound c (small_of c);
-    }
-      where
-        both : count C2 ≡ count C1
-        both = colour_counts p n
-
-        small_of : (c : Component) (i : ℕ) → i < count c → unsigned_abs (read_in bands c (block_of s c) i) < 2 ^ 60
-        small_of Y i h = wider (read_in bands Y (block_of s Y) i) (read_in bands Y (block_of s Y) i) refl (n0 i h)
-        small_of C1 i h = wider (turned_in bands C1 turns i) (read_in bands C1 (block_of s C1) i) (first_read i h) (n1 i h)
-        small_of C2 i h = wider (turned_in bands C2 turns i) (read_in bands C2 (block_of s C2) i) (second_read i h) (n2 i h)

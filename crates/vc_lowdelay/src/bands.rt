@@ -1,4 +1,5 @@
-ghost use Rattle.std.specs.Prelude.{◌≡◌, ◌≢◌, ◌+◌, ◌^◌, ◌<◌, ◌≤◌, ℕ, IfOk, OnErr, OnOk, unsigned_abs};
+ghost use Rattle.std.specs.Prelude.{◌≡◌, ◌≢◌, ◌+◌, ◌*◌, ◌^◌, ◌<◌, ◌≤◌, ℕ};
+ghost use Rattle.std.specs.Prelude.{IfOk, OnErr, OnOk, length, unsigned_abs};
 ghost use Rattle.vc_types.specs.Lifting.{line_of};
 ghost use Rattle.vc_types.specs.declared.video.Component.TheVariants.{Y, C1, C2};
 ghost use Rattle.vc_types.specs.OfPlan.{slice_count};
@@ -8,11 +9,13 @@ ghost use Rattle.vc_types.specs.Transforms.{lowest_width, lowest_height};
 ghost use Rattle.vc_lowdelay.specs.LowDelay.{mean_of, predicted};
 ghost use Rattle.vc_lowdelay.specs.Bands.{AreSmall, HasLarge, Holds, IsLowest};
 ghost use Rattle.vc_lowdelay.specs.Bands.{grown_value, lowest_rectangle, number_in, prediction_in, value_in};
+ghost use Rattle.vc_lowdelay.specs.Narrow.{GrowsLowest, HasSize, cells_of, kept_cells};
 
-use crate::refusal::LargeValue;
+use crate::refusal::{LargeValue, NarrowFault};
 use std::alloc::Global;
 use std::marker::Model;
-use vc_geometry::{band, slice_rect};
+use vc_geometry::{band, padded, slice_rect};
+use vc_slice::TooWide;
 use vc_types::{Component, NoMemory, Plan, Rect};
 
 /// The values of LL of a component. Contracts see its width, its height and the list of its values, row by
@@ -56,6 +59,58 @@ impl LowestBand {
             height: rect.height,
             values,
         })
+    }
+
+    // LL of a component, as it stands at the corner of the component's cells.
+    fn of_cells(
+        alloc: Global,
+        plan: &Plan,
+        c: Component,
+        cells: &[i32],
+    ) -> Result<LowestBand, NoMemory>
+        requires { HasSize (parameters_of plan.now) c cells.now }
+        ensures size { IfOk result (IsLowest (parameters_of plan.now) c) }
+        ensures values { IfOk result (Holds (kept_cells (parameters_of plan.now) c cells.now)) }
+        ensures small { IfOk result (λ band. AreSmall band) }
+    {
+        let rect = band(plan, c, 0);
+        let (stride, _) = padded(plan, c);
+        let count = rect.width as usize * rect.height as usize;
+        let mut values = vec![in alloc; 0i64; count]?;
+        for y in 0..rect.height {
+            for x in 0..rect.width {
+                let place = y as usize * rect.width as usize + x as usize;
+                values[place] = i64::from(cells[y as usize * stride as usize + x as usize]);
+            }
+        }
+        Ok(LowestBand {
+            width: rect.width,
+            height: rect.height,
+            values,
+        })
+    }
+
+    // Puts the values to the corner of cells, so many a row: TooWide where one doesn't fit 32 bits.
+    fn give(&self, cells: &mut Vec<i32>, stride: u32) -> Result<(), TooWide>
+        requires across { self.now.width ≤ stride }
+        requires down { self.now.height * stride ≤ length cells.old.items }
+        requires sides { (stride ≤ 8192) × (self.now.height ≤ 8192) }
+        ensures on { OnOk result ((x y : ℕ) → x < self.now.width → y < self.now.height
+            → cells_of stride cells.new.items x y ≡ value_in self.now x y) }
+        ensures off { OnOk result ((k : ℕ)
+            → ((x y : ℕ) → x < self.now.width → y < self.now.height → k ≢ y * stride + x)
+            → line_of cells.new.items k ≡ line_of cells.old.items k) }
+        ensures length { OnOk result (length cells.new.items ≡ length cells.old.items) }
+    {
+        for y in 0..self.height {
+            for x in 0..self.width {
+                let Ok(value) = i32::try_from(self.get(x, y)) else {
+                    return Err(TooWide);
+                };
+                cells[y as usize * stride as usize + x as usize] = value;
+            }
+        }
+        Ok(())
     }
 
     /// The value in column `x` and row `y`.
@@ -138,6 +193,24 @@ impl LowestBand {
             )
         }
     }
+}
+
+/// Each value of LL grows by its prediction, in the cells of a component: TooWide where one doesn't fit 32
+/// bits then.
+pub(crate) fn grow_lowest(
+    alloc: Global,
+    plan: &Plan,
+    c: Component,
+    cells: &mut Vec<i32>,
+) -> Result<(), NarrowFault>
+    requires { HasSize (parameters_of plan.now) c cells.old.items }
+    ensures { OnOk result (GrowsLowest (parameters_of plan.now) c cells.old.items cells.new.items) }
+{
+    let (stride, _) = padded(plan, c);
+    let mut lowest = LowestBand::of_cells(alloc, plan, c, cells)?;
+    lowest.grow()?;
+    lowest.give(cells, stride)?;
+    Ok(())
 }
 
 /// What a slice has of LL of a component.

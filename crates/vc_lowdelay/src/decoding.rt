@@ -1,26 +1,30 @@
-ghost use Rattle.std.specs.Prelude.{◌≡◌, ◌≤◌, ◌<◌, Ok, IfOk, IfErr, length};
+ghost use Rattle.std.specs.Prelude.{◌≡◌, ◌≤◌, ◌<◌, Ok, IfOk, IfErr, OnOk, length};
+ghost use Rattle.vc_types.specs.declared.video.Component.TheVariants.{Y, C1, C2};
 ghost use Rattle.vc_types.specs.Planes.{planes_in};
 ghost use Rattle.vc_types.specs.TransformParameters.{parameters_of};
 ghost use Rattle.picture_build.specs.Kept.{all_slices};
 ghost use Rattle.vc_lowdelay.specs.Decoded.{IsDecodable, IsLargeAt, IsSliceAt};
 ghost use Rattle.vc_lowdelay.specs.Grown.{grown_slices};
 ghost use Rattle.vc_lowdelay.specs.LowDelay.{low_planes, low_slices};
+ghost use Rattle.vc_lowdelay.specs.Narrow.{HoldsGrown};
 ghost use Rattle.vc_lowdelay.specs.OfBands.{AreLowest};
 ghost use Rattle.vc_lowdelay.specs.OfPlan.{low_parameters_of, picture_bytes, slice_count};
 ghost use Rattle.vc_lowdelay.specs.Refusals.{IsRefusalFor, IsRefusalOf};
 
-use crate::bands::LowestBands;
+use crate::bands::{LowestBands, grow_lowest};
+use crate::finishing::{planes, planes_joined};
 use crate::lowest::grown_bands;
-use crate::narrow::narrow_coefficients;
+use crate::narrow::put_slices;
 use crate::plan::LowPlan;
-use crate::refusal::LowRefusal;
+use crate::refusal::{LowRefusal, NarrowFault};
+use crate::room::LowRoom;
 use crate::slice::LowSlice;
 use crate::wide::wide_coefficients;
 use picture_build::PictureBuilder;
 use std::alloc::Global;
 use std::thread::Threads;
 use vc_slice::{SliceBands, SliceCoeffs, SliceParts};
-use vc_types::Plane;
+use vc_types::{Component, Plane};
 
 /// The planes of Y, C1 and C2 of a low-delay picture, from the bytes of its slices in raster order
 /// (ST 2042-1: low-delay slices, and prediction in the lowest subband). Bytes behind the last slice aren't
@@ -30,8 +34,15 @@ pub fn decode_low(alloc: Global, p: &LowPlan, bytes: &[u8]) -> Result<[Plane; 3]
         (λ planes. low_planes (low_parameters_of p.now) bytes.now ≡ Ok (planes_in planes)) }
     ensures refused { IfErr result (IsRefusalOf (low_parameters_of p.now) bytes.now) }
 {
-    let mut picture = filled(alloc, p, bytes)?;
-    Ok(picture.planes()?)
+    if (bytes.len() as u64) < p.picture_bytes() {
+        return Err(LowRefusal::Short);
+    }
+    let mut room = LowRoom::new(alloc);
+    match narrow_planes(alloc, p, bytes, &mut room) {
+        Ok(planes) => Ok(planes),
+        Err(NarrowFault::TooWide) => wide_planes(alloc, p, bytes),
+        Err(NarrowFault::NoMemory) => Err(LowRefusal::NoMemory),
+    }
 }
 
 /// The same, where luma is transformed beside the colours, by join.
@@ -45,20 +56,119 @@ pub fn decode_low_joined<H: Threads + Copy + Send + Sync>(
         (λ planes. low_planes (low_parameters_of p.now) bytes.now ≡ Ok (planes_in planes)) }
     ensures refused { IfErr result (IsRefusalOf (low_parameters_of p.now) bytes.now) }
 {
+    let mut room = LowRoom::new(alloc);
+    decode_low_kept(rt, alloc, p, bytes, &mut room)
+}
+
+/// The same again, in memory that is kept from picture to picture.
+pub fn decode_low_kept<H: Threads + Copy + Send + Sync>(
+    rt: H,
+    alloc: Global,
+    p: &LowPlan,
+    bytes: &[u8],
+    room: &mut LowRoom,
+) -> Result<[Plane; 3], LowRefusal>
+    ensures value { IfOk result
+        (λ planes. low_planes (low_parameters_of p.now) bytes.now ≡ Ok (planes_in planes)) }
+    ensures refused { IfErr result (IsRefusalOf (low_parameters_of p.now) bytes.now) }
+{
+    if (bytes.len() as u64) < p.picture_bytes() {
+        return Err(LowRefusal::Short);
+    }
+    match narrow_planes_joined(rt, alloc, p, bytes, room) {
+        Ok(planes) => Ok(planes),
+        Err(NarrowFault::TooWide) => wide_planes_joined(rt, alloc, p, bytes),
+        Err(NarrowFault::NoMemory) => Err(LowRefusal::NoMemory),
+    }
+}
+
+// The planes of a picture, where 32 bits are enough all the way. The room is memory to work in.
+fn narrow_planes(
+    alloc: Global,
+    p: &LowPlan,
+    bytes: &[u8],
+    room: &mut LowRoom,
+) -> Result<[Plane; 3], NarrowFault>
+    requires whole { picture_bytes p.now ≤ length bytes.now }
+    ensures value { IfOk result
+        (λ planes. low_planes (low_parameters_of p.now) bytes.now ≡ Ok (planes_in planes)) }
+{
+    put_cells(alloc, p, bytes, room)?;
+    planes(alloc, &p.plan, room)
+}
+
+// The same, luma beside the colours, by join.
+fn narrow_planes_joined<H: Threads + Copy + Send + Sync>(
+    rt: H,
+    alloc: Global,
+    p: &LowPlan,
+    bytes: &[u8],
+    room: &mut LowRoom,
+) -> Result<[Plane; 3], NarrowFault>
+    requires whole { picture_bytes p.now ≤ length bytes.now }
+    ensures value { IfOk result
+        (λ planes. low_planes (low_parameters_of p.now) bytes.now ≡ Ok (planes_in planes)) }
+{
+    put_cells(alloc, p, bytes, room)?;
+    planes_joined(rt, alloc, &p.plan, room)
+}
+
+// Puts the coefficients of a picture at their places, 32 bits each, and LL as it has grown.
+fn put_cells(
+    alloc: Global,
+    p: &LowPlan,
+    bytes: &[u8],
+    room: &mut LowRoom,
+) -> Result<(), NarrowFault>
+    requires whole { picture_bytes p.now ≤ length bytes.now }
+    ensures y { OnOk result (HoldsGrown (low_parameters_of p.now) bytes.now Y room.new.y.items) }
+    ensures c1 { OnOk result (HoldsGrown (low_parameters_of p.now) bytes.now C1 room.new.c1.items) }
+    ensures c2 { OnOk result (HoldsGrown (low_parameters_of p.now) bytes.now C2 room.new.c2.items) }
+    ensures sound { OnOk result (IsDecodable (low_parameters_of p.now) bytes.now) }
+{
+    room.fit(alloc, &p.plan)?;
+    put_slices(alloc, p, bytes, room)?;
+    grow_lowest(alloc, &p.plan, Component::Y, &mut room.y)?;
+    grow_lowest(alloc, &p.plan, Component::C1, &mut room.c1)?;
+    grow_lowest(alloc, &p.plan, Component::C2, &mut room.c2)?;
+    Ok(())
+}
+
+// The planes of a picture, whatever its coefficients.
+fn wide_planes(alloc: Global, p: &LowPlan, bytes: &[u8]) -> Result<[Plane; 3], LowRefusal>
+    requires whole { picture_bytes p.now ≤ length bytes.now }
+    ensures value { IfOk result
+        (λ planes. low_planes (low_parameters_of p.now) bytes.now ≡ Ok (planes_in planes)) }
+    ensures refused { IfErr result (IsRefusalOf (low_parameters_of p.now) bytes.now) }
+{
+    let mut picture = filled(alloc, p, bytes)?;
+    Ok(picture.planes()?)
+}
+
+// The same, luma beside the colours, by join.
+fn wide_planes_joined<H: Threads + Copy + Send + Sync>(
+    rt: H,
+    alloc: Global,
+    p: &LowPlan,
+    bytes: &[u8],
+) -> Result<[Plane; 3], LowRefusal>
+    requires whole { picture_bytes p.now ≤ length bytes.now }
+    ensures value { IfOk result
+        (λ planes. low_planes (low_parameters_of p.now) bytes.now ≡ Ok (planes_in planes)) }
+    ensures refused { IfErr result (IsRefusalOf (low_parameters_of p.now) bytes.now) }
+{
     let mut picture = filled(alloc, p, bytes)?;
     Ok(picture.planes_joined(rt)?)
 }
 
 // A picture that all slices of these bytes came to, with LL as it has grown.
 fn filled(alloc: Global, p: &LowPlan, bytes: &[u8]) -> Result<PictureBuilder, LowRefusal>
+    requires whole { picture_bytes p.now ≤ length bytes.now }
     ensures value { IfOk result (λ picture. picture ≡ all_slices (parameters_of p.now.plan)
         (grown_slices (parameters_of p.now.plan) (low_slices (low_parameters_of p.now) bytes.now))) }
     ensures sound { IfOk result (λ picture. IsDecodable (low_parameters_of p.now) bytes.now) }
     ensures refused { IfErr result (IsRefusalOf (low_parameters_of p.now) bytes.now) }
 {
-    if (bytes.len() as u64) < p.picture_bytes() {
-        return Err(LowRefusal::Short);
-    }
     let lowest = grown_bands(alloc, p, bytes)?;
     let mut picture = PictureBuilder::new(alloc, p.plan)?;
     for slice in 0..p.slice_count() {
@@ -68,8 +178,7 @@ fn filled(alloc: Global, p: &LowPlan, bytes: &[u8]) -> Result<PictureBuilder, Lo
     Ok(picture)
 }
 
-// The coefficients of a slice, those of LL as they have grown: in 32 bits first, and where one may be too
-// wide, again in 64.
+// The coefficients of a slice, those of LL as they have grown.
 fn coefficients(
     alloc: Global,
     p: &LowPlan,
@@ -86,8 +195,5 @@ fn coefficients(
     let coded = LowSlice::new(p.slice_bytes(slice, bytes));
     let parts = SliceParts::new(&p.plan, slice);
     let bands = SliceBands::new(&parts, coded.index);
-    match narrow_coefficients(alloc, &bands, &coded, lowest)? {
-        Some(coeffs) => Ok(coeffs),
-        None => wide_coefficients(alloc, &bands, &coded, lowest),
-    }
+    wide_coefficients(alloc, &bands, &coded, lowest)
 }

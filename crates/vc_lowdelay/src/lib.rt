@@ -2,18 +2,23 @@
 #![tactic(auto)]
 
 mod bands;
+mod cell_rect;
 mod coefficient;
 mod decoding;
+mod finishing;
 mod lowest;
 mod narrow;
 mod params;
+mod placing;
 mod plan;
 mod refusal;
+mod room;
 mod slice;
 mod wide;
 
-pub use decoding::{decode_low, decode_low_joined};
+pub use decoding::{decode_low, decode_low_joined, decode_low_kept};
 pub use params::read_low_params;
 pub use plan::LowPlan;
 pub use refusal::LowRefusal;
+pub use room::LowRoom;
 pub use vc_types::ParamsRefusal;

@@ -1,24 +1,31 @@
-ghost use Rattle.std.specs.Prelude.{◌≡◌, ◌+◌, ◌*◌, ◌^◌, ◌<◌, ◌≤◌, ◌⊎◌, ℕ, OnOk, IfOk, IfSome, length};
-ghost use Rattle.std.specs.Prelude.{slice_index_or, true, unsigned_abs};
-ghost use Rattle.vc_types.specs.declared.video.Component.TheVariants.{Y, C1};
+ghost use Rattle.std.specs.Prelude.{◌≡◌, ◌+◌, ◌*◌, ◌<◌, ◌≤◌, ℕ, All, IfOk, OnOk, length, unsigned_abs};
+ghost use Rattle.vc_types.specs.declared.video.Component.TheVariants.{Y, C1, C2};
 ghost use Rattle.vc_types.specs.Lifting.{line_of};
-ghost use Rattle.vc_types.specs.Quantisation.{dequantised};
-ghost use Rattle.vc_slice.specs.Bands.{coefficient_count, quantisers_of};
-ghost use Rattle.vc_slice.specs.OneBlock.{three_parts};
-ghost use Rattle.vc_lowdelay.specs.Bands.{value_in};
-ghost use Rattle.vc_lowdelay.specs.OfBands.{AreLowest, IsLowestOf, IsSliceOf, grown_in};
-ghost use Rattle.vc_lowdelay.specs.OfBands.{lowest_at, lowest_count, parameters_in, read_in};
-ghost use Rattle.vc_lowdelay.specs.OfBands.{turn_of, turned_in};
+ghost use Rattle.vc_types.specs.TransformParameters.{parameters_of};
+ghost use Rattle.vc_golomb.specs.Numbers.{number_at};
+ghost use Rattle.vc_slice.specs.Bands.{coefficient_count};
+ghost use Rattle.picture_build.specs.Kept.{AllAreIn};
+ghost use Rattle.picture_build.specs.PartsKept.{AreCells, FillsPart};
+ghost use Rattle.vc_lowdelay.specs.Coded.{slice_of};
+ghost use Rattle.vc_lowdelay.specs.Grown.{IsSound};
+ghost use Rattle.vc_lowdelay.specs.LowDelay.{low_coefficients, low_slices};
+ghost use Rattle.vc_lowdelay.specs.Narrow.{HasSize, PutsCoefficients};
+ghost use Rattle.vc_lowdelay.specs.OfBands.{parameters_in, read_in, turn_of, turned_in};
+ghost use Rattle.vc_lowdelay.specs.OfPlan.{low_parameters_of, picture_bytes};
 
-use crate::bands::{LowestBand, LowestBands, area_of, cell_of, lowest_rect};
+use crate::placing::put_numbers;
+use crate::plan::LowPlan;
+use crate::refusal::NarrowFault;
+use crate::room::{LowRoom, at_least};
 use crate::slice::LowSlice;
 use std::alloc::Global;
 use vc_bits::Block;
-use vc_geometry::bands as band_count;
 use vc_golomb::read_sints;
-use vc_quant::Quantiser;
-use vc_slice::{SliceBands, SliceCoeffs, TooWide};
-use vc_types::{Component, NoMemory};
+use vc_slice::{SliceBands, SliceParts, TooWide};
+use vc_types::Component;
+
+// From here on factors have more than 20 binary digits.
+const LARGE_INDEX: u8 = 80;
 
 // The numbers of both colours in turn, and at least the magnitude of each.
 #[derive(Clone, Copy)]
@@ -27,128 +34,133 @@ struct Turns<'a> {
     greatest: u32,
 }
 
-/// The coefficients of a slice in 32 bits each, those of LL as they have grown, unless one may be too wide.
-pub(crate) fn narrow_coefficients(
+/// Puts the coefficients of all slices of these bytes at their places in the cells of the three components,
+/// 32 bits each.
+pub(crate) fn put_slices(
+    alloc: Global,
+    p: &LowPlan,
+    bytes: &[u8],
+    room: &mut LowRoom,
+) -> Result<(), NarrowFault>
+    requires whole { picture_bytes p.now ≤ length bytes.now }
+    requires y { HasSize (parameters_of p.now.plan) Y room.old.y.items }
+    requires c1 { HasSize (parameters_of p.now.plan) C1 room.old.c1.items }
+    requires c2 { HasSize (parameters_of p.now.plan) C2 room.old.c2.items }
+    ensures { OnOk result (AllAreIn (parameters_of p.now.plan)
+        (low_slices (low_parameters_of p.now) bytes.now)
+        room.new.y.items room.new.c1.items room.new.c2.items) }
+{
+    for slice in 0..p.slice_count() {
+        let coded = LowSlice::new(p.slice_bytes(slice, bytes));
+        let parts = SliceParts::new(&p.plan, slice);
+        let bands = SliceBands::new(&parts, coded.index);
+        put_slice(alloc, &bands, &coded, room)?;
+    }
+    Ok(())
+}
+
+// Puts the coefficients of a slice at their places.
+fn put_slice(
     alloc: Global,
     bands: &SliceBands,
     coded: &LowSlice<'_>,
-    lowest: &LowestBands,
-) -> Result<Option<SliceCoeffs>, NoMemory>
+    room: &mut LowRoom,
+) -> Result<(), NarrowFault>
     requires index { bands.now.index ≡ coded.now.index }
-    requires lowest { AreLowest (parameters_in bands.now) lowest.now }
-    ensures value { IfOk result
-        (λ found. IfSome found (IsSliceOf bands.now coded.now lowest.now)) }
+    requires y { AreCells bands.now.parts.now Y room.old.y.items }
+    requires c1 { AreCells bands.now.parts.now C1 room.old.c1.items }
+    requires c2 { AreCells bands.now.parts.now C2 room.old.c2.items }
+    ensures y { OnOk result (FillsPart bands.now.parts.now Y
+        (low_coefficients (parameters_in bands.now) bands.now.parts.now.slice (slice_of coded.now) Y)
+        room.old.y.items room.new.y.items) }
+    ensures c1 { OnOk result (FillsPart bands.now.parts.now C1
+        (low_coefficients (parameters_in bands.now) bands.now.parts.now.slice (slice_of coded.now) C1)
+        room.old.c1.items room.new.c1.items) }
+    ensures c2 { OnOk result (FillsPart bands.now.parts.now C2
+        (low_coefficients (parameters_in bands.now) bands.now.parts.now.slice (slice_of coded.now) C2)
+        room.old.c2.items room.new.c2.items) }
+    ensures sound { OnOk result
+        (IsSound (parameters_in bands.now) bands.now.parts.now.slice (slice_of coded.now)) }
 {
     let y = bands.parts.count(Component::Y) as usize;
     let c = bands.parts.count(Component::C1) as usize;
-    let mut turns = vec![in alloc; 0i32; c + c + 8]?;
-    let mut numbers = vec![in alloc; 0i32; y + c + c + 8]?;
-    match put_components(bands, coded, lowest, &mut turns, &mut numbers) {
-        Ok(()) => Ok(Some(SliceCoeffs::narrow(numbers, y, c, c))),
-        Err(TooWide) => Ok(None),
-    }
+    at_least(alloc, &mut room.numbers, y.max(c) + 8)?;
+    at_least(alloc, &mut room.turns, 2 * c + 8)?;
+    put_luma(bands, &coded.luma, &mut room.numbers, &mut room.y)?;
+    put_colours(
+        bands,
+        &coded.colour,
+        &mut room.turns,
+        &mut room.numbers,
+        &mut room.c1,
+        &mut room.c2,
+    )?;
+    Ok(())
 }
 
-// Puts the coefficients of the three components one behind the other. The first list is room to work in.
-fn put_components(
+// Puts luma's coefficients at their places. The numbers are room to work in.
+fn put_luma(
     bands: &SliceBands,
-    coded: &LowSlice<'_>,
-    lowest: &LowestBands,
+    block: &Block<'_>,
+    numbers: &mut [i32],
+    cells: &mut Vec<i32>,
+) -> Result<(), TooWide>
+    requires room { coefficient_count bands.now.parts.now Y + 8 ≤ length numbers.old }
+    requires cells { AreCells bands.now.parts.now Y cells.old.items }
+    ensures { OnOk result (PutsCoefficients bands.now Y (read_in bands.now Y block.now)
+        cells.old.items cells.new.items) }
+{
+    let count = bands.parts.count(Component::Y) as usize;
+    let greatest = read_block(bands.index, block, count, numbers)?;
+    put_numbers(bands, Component::Y, numbers, greatest, cells)
+}
+
+// Puts those of both colours, whose numbers take turns, at their places.
+fn put_colours(
+    bands: &SliceBands,
+    block: &Block<'_>,
     turns: &mut [i32],
     numbers: &mut [i32],
+    c1: &mut Vec<i32>,
+    c2: &mut Vec<i32>,
 ) -> Result<(), TooWide>
-    requires index { bands.now.index ≡ coded.now.index }
-    requires lowest { AreLowest (parameters_in bands.now) lowest.now }
     requires turns { 2 * coefficient_count bands.now.parts.now C1 + 8 ≤ length turns.old }
-    requires numbers { coefficient_count bands.now.parts.now Y
-        + 2 * coefficient_count bands.now.parts.now C1 + 8 ≤ length numbers.old }
-    ensures { OnOk result (IsSliceOf bands.now coded.now lowest.now
-        (three_parts (coefficient_count bands.now.parts.now Y)
-        (coefficient_count bands.now.parts.now C1)
-        (coefficient_count bands.now.parts.now C1) numbers.new)) }
+    requires room { coefficient_count bands.now.parts.now C1 ≤ length numbers.old }
+    requires c1 { AreCells bands.now.parts.now C1 c1.old.items }
+    requires c2 { AreCells bands.now.parts.now C2 c2.old.items }
+    ensures c1 { OnOk result (PutsCoefficients bands.now C1 (read_in bands.now C1 block.now)
+        c1.old.items c1.new.items) }
+    ensures c2 { OnOk result (PutsCoefficients bands.now C2 (read_in bands.now C2 block.now)
+        c2.old.items c2.new.items) }
 {
-    let y = bands.parts.count(Component::Y) as usize;
-    let c = bands.parts.count(Component::C1) as usize;
-    put_luma(bands, &coded.luma, &lowest.y, numbers)?;
-    let Ok(greatest) = read_sints(&coded.colour, 2 * c, turns) else {
-        return Err(TooWide);
-    };
+    let count = bands.parts.count(Component::C1) as usize;
+    let greatest = read_block(bands.index, block, 2 * count, turns)?;
     let read = Turns {
         numbers: turns,
         greatest,
     };
-    put_colour_at(bands, Component::C1, &read, &lowest.c1, y, numbers)?;
-    put_colour_at(bands, Component::C2, &read, &lowest.c2, y + c, numbers)?;
-    Ok(())
+    put_colour(bands, Component::C1, &read, numbers, c1)?;
+    put_colour(bands, Component::C2, &read, numbers, c2)
 }
 
-// Reads luma's block to the front of numbers, which have room for eight more.
-fn put_luma(
-    bands: &SliceBands,
-    block: &Block<'_>,
-    lowest: &LowestBand,
-    numbers: &mut [i32],
-) -> Result<(), TooWide>
-    requires lowest { IsLowestOf bands.now Y lowest.now }
-    requires room { coefficient_count bands.now.parts.now Y + 8 ≤ length numbers.old }
-    ensures on { OnOk result ((i : ℕ) → i < coefficient_count bands.now.parts.now Y
-        → line_of numbers.new i
-        ≡ grown_in bands.now Y (value_in lowest.now) (read_in bands.now Y block.now) i) }
-    ensures narrow { OnOk result ((i : ℕ) → i < coefficient_count bands.now.parts.now Y
-        → unsigned_abs (read_in bands.now Y block.now i) < 2 ^ 29) }
-{
-    let count = bands.parts.count(Component::Y) as usize;
-    let Ok(greatest) = read_sints(block, count, numbers) else {
-        return Err(TooWide);
-    };
-    finish(bands, Component::Y, greatest, lowest, numbers)
-}
-
-// Puts the coefficients of a colour component to the numbers from one of them on.
-fn put_colour_at(
-    bands: &SliceBands,
-    c: Component,
-    turns: &Turns<'_>,
-    lowest: &LowestBand,
-    from: usize,
-    numbers: &mut [i32],
-) -> Result<(), TooWide>
-    requires lowest { IsLowestOf bands.now c lowest.now }
-    requires turns { 2 * coefficient_count bands.now.parts.now c ≤ length turns.now.numbers.now }
-    requires greatest { (i : ℕ) → i < 2 * coefficient_count bands.now.parts.now c
-        → unsigned_abs (line_of turns.now.numbers.now i) ≤ turns.now.greatest }
-    requires room { from + coefficient_count bands.now.parts.now c ≤ length numbers.old }
-    ensures on { OnOk result ((i : ℕ) → i < coefficient_count bands.now.parts.now c
-        → line_of numbers.new (from + i) ≡ grown_in bands.now c (value_in lowest.now)
-        (turned_in bands.now c turns.now.numbers.now) i) }
-    ensures off { (i : ℕ) → i < from → line_of numbers.new i ≡ line_of numbers.old i }
-    ensures narrow { OnOk result ((i : ℕ) → i < coefficient_count bands.now.parts.now c
-        → unsigned_abs (turned_in bands.now c turns.now.numbers.now i) < 2 ^ 29) }
-{
-    put_colour(bands, c, turns, lowest, &mut numbers[from..])
-}
-
-// Puts the coefficients of a colour component to the front of numbers.
+// Puts the coefficients of a colour component at their places. The numbers are room to work in.
 fn put_colour(
     bands: &SliceBands,
     c: Component,
     turns: &Turns<'_>,
-    lowest: &LowestBand,
     numbers: &mut [i32],
+    cells: &mut Vec<i32>,
 ) -> Result<(), TooWide>
-    requires lowest { IsLowestOf bands.now c lowest.now }
     requires turns { 2 * coefficient_count bands.now.parts.now c ≤ length turns.now.numbers.now }
     requires greatest { (i : ℕ) → i < 2 * coefficient_count bands.now.parts.now c
         → unsigned_abs (line_of turns.now.numbers.now i) ≤ turns.now.greatest }
     requires room { coefficient_count bands.now.parts.now c ≤ length numbers.old }
-    ensures on { OnOk result ((i : ℕ) → i < coefficient_count bands.now.parts.now c
-        → line_of numbers.new i ≡ grown_in bands.now c (value_in lowest.now)
-        (turned_in bands.now c turns.now.numbers.now) i) }
-    ensures narrow { OnOk result ((i : ℕ) → i < coefficient_count bands.now.parts.now c
-        → unsigned_abs (turned_in bands.now c turns.now.numbers.now i) < 2 ^ 29) }
+    requires cells { AreCells bands.now.parts.now c cells.old.items }
+    ensures { OnOk result (PutsCoefficients bands.now c
+        (turned_in bands.now c turns.now.numbers.now) cells.old.items cells.new.items) }
 {
     take_turns(turns.numbers, first_turn(c), bands.parts.count(c), numbers);
-    finish(bands, c, turns.greatest, lowest, numbers)
+    put_numbers(bands, c, numbers, turns.greatest, cells)
 }
 
 // Which of both numbers at a place of the colours' block is the component's.
@@ -174,95 +186,38 @@ fn take_turns(turns: &[i32], first: usize, count: u32, numbers: &mut [i32])
     }
 }
 
-// Puts in the place of numbers, whose magnitudes are at most the greatest, the coefficients that they stand
-// for, and those of LL as they have grown.
-fn finish(
-    bands: &SliceBands,
-    c: Component,
-    greatest: u32,
-    lowest: &LowestBand,
+// Reads the next numbers of a block, so many, to the front of others, which have room for eight more: a bound
+// of their magnitudes.
+fn read_block(
+    index: u8,
+    block: &Block<'_>,
+    count: usize,
     numbers: &mut [i32],
-) -> Result<(), TooWide>
-    requires lowest { IsLowestOf bands.now c lowest.now }
-    requires count { coefficient_count bands.now.parts.now c ≤ length numbers.old }
-    requires greatest { (i : ℕ) → i < coefficient_count bands.now.parts.now c
-        → unsigned_abs (line_of numbers.old i) ≤ greatest }
-    ensures on { OnOk result ((i : ℕ) → i < coefficient_count bands.now.parts.now c
-        → line_of numbers.new i ≡ grown_in bands.now c (value_in lowest.now)
-        (λ k. dequantised (line_of numbers.old k) (slice_index_or (quantisers_of bands.now c) k 0)) i) }
-    ensures narrow { OnOk result ((i : ℕ) → i < coefficient_count bands.now.parts.now c
-        → unsigned_abs (dequantised (line_of numbers.old i)
-        (slice_index_or (quantisers_of bands.now c) i 0)) < 2 ^ 29) }
+) -> Result<u32, TooWide>
+    requires room { count + 8 ≤ length numbers.old }
+    ensures numbers { OnOk result ((i : ℕ) → i < count
+        → line_of numbers.new i ≡ number_at block.now i) }
+    ensures most { IfOk result
+        (λ most. (i : ℕ) → i < count → unsigned_abs (line_of numbers.new i) ≤ most) }
 {
-    if !dequantise(bands, c, greatest, numbers) {
+    let Ok(most) = read_sints(block, count, numbers) else {
         return Err(TooWide);
+    };
+    // Where factors are large, a closer bound may let the numbers stay narrow.
+    if index < LARGE_INDEX {
+        Ok(most)
+    } else {
+        Ok(greatest(&numbers[..count]))
     }
-    if !put_lowest(bands, c, lowest, numbers) {
-        return Err(TooWide);
-    }
-    Ok(())
 }
 
-// Puts in the place of numbers the coefficients that they stand for; false where one may not fit 32 bits.
-fn dequantise(bands: &SliceBands, c: Component, greatest: u32, numbers: &mut [i32]) -> bool
-    requires count { coefficient_count bands.now.parts.now c ≤ length numbers.old }
-    requires greatest { (i : ℕ) → i < coefficient_count bands.now.parts.now c
-        → unsigned_abs (line_of numbers.old i) ≤ greatest }
-    ensures value { result ≡ true → (i : ℕ) → i < coefficient_count bands.now.parts.now c
-        → line_of numbers.new i ≡ dequantised (line_of numbers.old i)
-        (slice_index_or (quantisers_of bands.now c) i 0) }
-    ensures narrow { result ≡ true → (i : ℕ) → i < coefficient_count bands.now.parts.now c
-        → unsigned_abs (line_of numbers.new i) < 2 ^ 29 }
+// At least the magnitude of each number.
+fn greatest(numbers: &[i32]) -> u32
+    ensures { All (λ z. unsigned_abs z ≤ result) numbers.now }
 {
-    let mut from = 0usize;
-    for b in 0..band_count(&bands.parts.plan) {
-        let to = from + bands.parts.area(c, b) as usize;
-        if !dequantise_run(&bands.quantiser(b), numbers, from, to, greatest) {
-            return false;
-        }
-        from = to;
+    let mut seen = 0u32;
+    for number in numbers {
+        seen = seen.max(number.unsigned_abs());
     }
-    true
-}
-
-// The same for the numbers of one subband, which stand from one place to another.
-#[inline(always)]
-fn dequantise_run(
-    quantiser: &Quantiser,
-    numbers: &mut [i32],
-    from: usize,
-    to: usize,
-    greatest: u32,
-) -> bool
-    requires run { (from ≤ to) × (to ≤ length numbers.old) }
-    requires greatest { (i : ℕ) → from ≤ i → i < to
-        → unsigned_abs (line_of numbers.old i) ≤ greatest }
-    ensures on { result ≡ true → (i : ℕ) → from ≤ i → i < to
-        → line_of numbers.new i ≡ dequantised (line_of numbers.old i) quantiser.now.index }
-    ensures narrow { result ≡ true → (i : ℕ) → from ≤ i → i < to
-        → unsigned_abs (line_of numbers.new i) < 2 ^ 29 }
-    ensures off { result ≡ true → (i : ℕ) → (i < from) ⊎ (to ≤ i)
-        → line_of numbers.new i ≡ line_of numbers.old i }
-{
-    quantiser.dequant_all(&mut numbers[from..to], greatest)
-}
-
-// Puts what a slice has of LL to the front of numbers; false where a value doesn't fit 32 bits.
-fn put_lowest(bands: &SliceBands, c: Component, lowest: &LowestBand, numbers: &mut [i32]) -> bool
-    requires lowest { IsLowestOf bands.now c lowest.now }
-    requires room { lowest_count bands.now c ≤ length numbers.old }
-    ensures on { result ≡ true → (i : ℕ) → i < lowest_count bands.now c
-        → line_of numbers.new i ≡ lowest_at bands.now c (value_in lowest.now) i }
-    ensures off { (i : ℕ) → lowest_count bands.now c ≤ i
-        → line_of numbers.new i ≡ line_of numbers.old i }
-{
-    let rect = lowest_rect(&bands.parts.plan, c, bands.parts.slice);
-    for i in 0..area_of(&rect) {
-        let (x, y) = cell_of(&rect, i);
-        let Ok(value) = i32::try_from(lowest.get(x, y)) else {
-            return false;
-        };
-        numbers[i as usize] = value;
-    }
-    true
+    seen
 }

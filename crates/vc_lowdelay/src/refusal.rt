@@ -2,6 +2,7 @@ ghost use Rattle.std.specs.Prelude.{◌≡◌};
 ghost use Rattle.vc_lowdelay.specs.declared.refusal.LowRefusal.TheVariants as refusals;
 
 use std::alloc::{AllocError, AllocFailed};
+use vc_slice::TooWide;
 use vc_types::NoMemory;
 
 /// Why a low-delay picture isn't decoded.
@@ -17,6 +18,14 @@ pub enum LowRefusal {
 /// A coefficient has a magnitude of 2^60 or more.
 #[derive(Clone, Copy)]
 pub(crate) struct LargeValue;
+
+/// Why a picture isn't decoded in 32 bits.
+#[derive(Clone, Copy)]
+pub(crate) enum NarrowFault {
+    /// They may not be enough.
+    TooWide,
+    NoMemory,
+}
 
 impl From<AllocError> for LowRefusal {
     ghost from_gives = { λ _ e. e ≡ refusals.NoMemory };
@@ -47,5 +56,29 @@ impl From<LargeValue> for LowRefusal {
 
     fn from(_: LargeValue) -> Self {
         LowRefusal::CoefficientRange
+    }
+}
+
+impl From<TooWide> for NarrowFault {
+    fn from(_: TooWide) -> Self {
+        NarrowFault::TooWide
+    }
+}
+
+impl From<LargeValue> for NarrowFault {
+    fn from(_: LargeValue) -> Self {
+        NarrowFault::TooWide
+    }
+}
+
+impl From<AllocError> for NarrowFault {
+    fn from(_: AllocError) -> Self {
+        NarrowFault::NoMemory
+    }
+}
+
+impl From<NoMemory> for NarrowFault {
+    fn from(_: NoMemory) -> Self {
+        NarrowFault::NoMemory
     }
 }

@@ -1,8 +1,7 @@
-use Rattle.std.proofs.Common.{◌≡◌, Err, rules, sym, ap, subst, ◌∙◌}
+use Rattle.std.proofs.Common.{◌≡◌, sym, ap, subst, ◌∙◌}
 use Rattle.std.proofs.lemmas.Result.{IfOk-weaker, MatchResult-weaker}
 use Rattle.vc_types.specs.TransformParameters.{Parameters, parameters_of}
 use Rattle.vc_slice.specs.declared.bands.SliceParts.{SliceParts}
-use Rattle.vc_lowdelay.specs.declared.refusal.LowRefusal.TheVariants.{NoMemory}
 use Rattle.vc_lowdelay.specs.Coded.{slice_of}
 use Rattle.vc_lowdelay.specs.Decoded.{IsLargeAt, IsSliceAt}
 use Rattle.vc_lowdelay.specs.Grown.{lowest_in}
@@ -13,34 +12,13 @@ use Rattle.vc_lowdelay.proofs.Refused.{for_weaker}
 use Rattle.vc_lowdelay.proofs.SameSlices.{same_slice, same_large}
 use Rattle.vc_lowdelay.proofs.decoding.coefficients.Goals as goal
 
-pub narrow_coefficients-requires-clause-lowest : goal.narrow_coefficients-requires-clause-lowest
-narrow_coefficients-requires-clause-lowest c =
-    let plan : parameters_in c.new-bands.result ≡ parameters_of c.args.p.now.plan = ap (λ (parts : SliceParts). parameters_of parts.plan) c.new-bands.ensures.parts ∙ ap parameters_of c.new-parts.ensures.plan in
-    subst (λ (q : Parameters). AreLowest q c.args.lowest.now) (sym plan) c.requires.lowest
-
-pub returns-in_err-coeffs-clause-refused : goal.returns-in_err-coeffs-clause-refused
-returns-in_err-coeffs-clause-refused c =
-    let same : c.from_residual.result ≡ Err NoMemory = search rules in
-    rw same tt
-
-pub returns-in-Some-clause-value : goal.returns-in-Some-clause-value
-returns-in-Some-clause-value c =
-    let p = c.args.p.now in
-    let bands = c.new-bands.result in
-    let lowest = c.args.lowest.now in
-    let plan : parameters_in bands ≡ parameters_of p.plan = ap (λ (parts : SliceParts). parameters_of parts.plan) c.new-bands.ensures.parts ∙ ap parameters_of c.new-parts.ensures.plan in
-    let number : bands.parts.now.slice ≡ c.args.slice = ap (λ (parts : SliceParts). parts.slice) c.new-bands.ensures.parts ∙ c.new-parts.ensures.slice in
-    let own : slice_of c.new-coded.result ≡ slice_at (low_parameters_of p) c.args.bytes.now c.args.slice = c.new-coded.ensures ∙ ap low_slice c.slice_bytes.ensures.value in
-    same_slice (parameters_in bands) (parameters_of p.plan) bands.parts.now.slice c.args.slice (slice_of c.new-coded.result) (slice_at (low_parameters_of p) c.args.bytes.now c.args.slice) plan number own
-    (lowest_in lowest.y lowest.c1 lowest.c2) c.in-Some.coeffs (rw c.in-Some.is at c.in_ok-coeffs.ensures.value)
-
 pub wide_coefficients-requires-clause-lowest : goal.wide_coefficients-requires-clause-lowest
 wide_coefficients-requires-clause-lowest c =
     let plan : parameters_in c.new-bands.result ≡ parameters_of c.args.p.now.plan = ap (λ (parts : SliceParts). parameters_of parts.plan) c.new-bands.ensures.parts ∙ ap parameters_of c.new-parts.ensures.plan in
     subst (λ (q : Parameters). AreLowest q c.args.lowest.now) (sym plan) c.requires.lowest
 
-pub returns-in-None-clause-value : goal.returns-in-None-clause-value
-returns-in-None-clause-value c =
+pub returns-clause-value : goal.returns-clause-value
+returns-clause-value c =
     let p = c.args.p.now in
     let bands = c.new-bands.result in
     let lowest = c.args.lowest.now in
@@ -52,8 +30,8 @@ returns-in-None-clause-value c =
     (lowest_in lowest.y lowest.c1 lowest.c2) made is)
     c.wide_coefficients.ensures.value
 
-pub returns-in-None-clause-refused : goal.returns-in-None-clause-refused
-returns-in-None-clause-refused c =
+pub returns-clause-refused : goal.returns-clause-refused
+returns-clause-refused c =
     let p = c.args.p.now in
     let bands = c.new-bands.result in
     let plan : parameters_in bands ≡ parameters_of p.plan = ap (λ (parts : SliceParts). parameters_of parts.plan) c.new-bands.ensures.parts ∙ ap parameters_of c.new-parts.ensures.plan in

@@ -1,4 +1,4 @@
-use Rattle.std.proofs.Common.{◌≡◌, ◌+◌, ◌<◌, ◌≤◌, ℕ, true, Err, length, rules, arith, refl, sym, ap, subst, inl, inr}
+use Rattle.std.proofs.Common.{◌≡◌, ◌+◌, ◌<◌, ℕ, true, Err, rules, arith, refl, sym, ap, subst, inl, inr}
 use Rattle.std.specs.Prelude.{slice_index_or}
 use Rattle.std.proofs.lemmas.Bool.{cases_eq}
 use Rattle.vc_types.specs.SliceCoefficients.{AreSliceCoefficients}
@@ -10,24 +10,20 @@ use Rattle.vc_lowdelay.specs.declared.refusal.LowRefusal.TheVariants.{NoMemory}
 use Rattle.vc_lowdelay.specs.Decoded.{IsLargeAt}
 use Rattle.vc_lowdelay.specs.Grown.{IsSound}
 use Rattle.vc_lowdelay.specs.LowDelay.{are_large, low_slices, slice_at}
-use Rattle.vc_lowdelay.specs.OfPlan.{low_parameters_of, picture_bytes}
+use Rattle.vc_lowdelay.specs.OfPlan.{low_parameters_of}
 use Rattle.vc_lowdelay.proofs.DecodablePictures.{decodable}
 use Rattle.vc_lowdelay.proofs.Decodings.{made, length-made}
 use Rattle.vc_lowdelay.proofs.GrownSlices.{AllGrown, made_whole, made_slice}
-use Rattle.vc_lowdelay.proofs.LowAnswers.{is_short}
 use Rattle.vc_lowdelay.proofs.Refused.{refusal_of}
 use Rattle.vc_lowdelay.proofs.SlicesPlaced.{slice_refuses}
 use Rattle.vc_lowdelay.proofs.SliceStarts.{across, down}
 use Rattle.vc_lowdelay.proofs.decoding.filled.Goals as goal
 
-pub returns-then-bytes-picture_bytes-clause-refused : goal.returns-then-bytes-picture_bytes-clause-refused
-returns-then-bytes-picture_bytes-clause-refused c = is_short (low_parameters_of c.args.p.now) c.args.bytes.now (omega arith)
-
 pub returns-in_err-lowest-clause-refused : goal.returns-in_err-lowest-clause-refused
 returns-in_err-lowest-clause-refused c =
     let p = low_parameters_of c.args.p.now in
     let bytes = c.args.bytes.now in
-    let whole : picture_bytes c.args.p.now ≤ length bytes = omega arith in
+    let whole = c.requires.whole in
     let e = c.in_err-lowest.field-0.0 in
     let same : c.from_residual.result ≡ Err e = search rules in
     rw same (refusal_of p bytes whole (are_large p.parameters (low_slices p bytes) ≡ true) (λ large. large) e c.in_err-lowest.ensures.refused)
@@ -58,7 +54,7 @@ returns-in_err-coeffs-clause-refused c =
     let p = low_parameters_of c.args.p.now in
     let bytes = c.args.bytes.now in
     let n = c.loop-slice.slice in
-    let whole : picture_bytes c.args.p.now ≤ length bytes = omega arith in
+    let whole = c.requires.whole in
     let numbered : n < slice_count p.parameters = omega arith in
     let e = c.in_err-coeffs.field-0.0 in
     let same : c.from_residual-in_err-coeffs.result ≡ Err e = search rules in
@@ -113,7 +109,7 @@ returns-clause-sound c =
     let p = low_parameters_of c.args.p.now in
     let bytes = c.args.bytes.now in
     let lowest = c.in_ok-lowest.lowest in
-    let whole : picture_bytes c.args.p.now ≤ length bytes = omega arith in
+    let whole = c.requires.whole in
     let done : c.loop-slice.slice ≡ slice_count p.parameters = omega arith in
     let grown : AllGrown p.parameters (low_slices p bytes) lowest.y lowest.c1 lowest.c2 = record { y_grown = c.in_ok-lowest.ensures.y; c1_grown = c.in_ok-lowest.ensures.c1; c2_grown = c.in_ok-lowest.ensures.c2 } in
     decodable p bytes lowest.y lowest.c1 lowest.c2 grown whole (λ n h. c.loop-slice.invariant.sound n (omega (arith, h, done)))

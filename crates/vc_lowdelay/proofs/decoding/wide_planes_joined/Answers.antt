@@ -1,0 +1,20 @@
+use Rattle.std.proofs.Common.{◌≡◌, ℕ, Ok, Err, rules}
+use Rattle.vc_lowdelay.specs.declared.refusal.LowRefusal.TheVariants.{NoMemory}
+use Rattle.vc_lowdelay.proofs.Decodings.{has_all, planes_answer}
+use Rattle.vc_lowdelay.proofs.decoding.wide_planes_joined.Goals as goal
+
+pub returns-in_err-picture-clause-refused : goal.returns-in_err-picture-clause-refused
+returns-in_err-picture-clause-refused g c =
+    let same : c.from_residual.result ≡ Err c.in_err-picture.field-0.0 = search rules in
+    rw same c.in_err-picture.ensures.refused
+
+pub planes_joined-requires-clause-whole : goal.planes_joined-requires-clause-whole
+planes_joined-requires-clause-whole g c κs within = has_all c.args.p.now c.args.bytes.now c.in_ok-picture.picture c.in_ok-picture.ensures.value
+
+pub returns-in_err-planes_joined-clause-refused : goal.returns-in_err-planes_joined-clause-refused
+returns-in_err-planes_joined-clause-refused g c =
+    let same : c.from_residual-in_err-planes_joined.result ≡ Err NoMemory = search rules in
+    rw same tt
+
+pub returns-clause-value : goal.returns-clause-value
+returns-clause-value g c = planes_answer c.args.p.now c.args.bytes.now {E = ℕ} c.in_ok-picture.picture c.in_ok-picture.ensures.value c.in_ok-picture.ensures.sound (Ok c.in_ok-planes_joined.field-0) c.in_ok-planes_joined.ensures.value
