@@ -26,8 +26,8 @@ use vc_types::{GenSettings, NoMemory, Plane, SliceNeed};
 
 /// Checks generated frames: sends each at index 0 and the other defaults, receives its datagrams
 /// with so many pictures open at a time (2 to 8) and so many workers, and counts the samples that
-/// come out otherwise than they went in. Nothing is written. One frame and its datagrams are kept
-/// in memory, which no clause says.
+/// come out otherwise than they went in. As many threads, at most 64, encode each frame. Nothing is
+/// written. One frame and its datagrams are kept in memory, which no clause says.
 pub fn check<H: Threads + Copy + Send + Sync, P: Hands>(
     rt: H,
     alloc: Global,
@@ -46,7 +46,7 @@ pub fn check<H: Threads + Copy + Send + Sync, P: Hands>(
         return Err(Ending::NoMemory);
     };
     let chooser = Chooser::new(false, |_need: &SliceNeed| 0);
-    let different = check_by(rt, alloc, g, window, chooser, hands)?;
+    let different = check_by(rt, workers, alloc, g, window, chooser, hands)?;
     Ok(Summary::Compared {
         frames: u64::from(g.frames),
         samples: samples_of(g),
@@ -55,8 +55,9 @@ pub fn check<H: Threads + Copy + Send + Sync, P: Hands>(
 }
 
 // How many samples come out otherwise, by a chooser of index 0.
-fn check_by<H: Threads + Copy + Send + Sync, F: Fn(&SliceNeed) -> u8, P: Places>(
+fn check_by<H: Threads + Copy + Send + Sync, F: Fn(&SliceNeed) -> u8 + Sync, P: Places>(
     rt: H,
+    workers: u32,
     alloc: Global,
     g: &GenSettings,
     window: u8,
@@ -79,12 +80,13 @@ fn check_by<H: Threads + Copy + Send + Sync, F: Fn(&SliceNeed) -> u8, P: Places>
 {
     let mut sender = Sender::new(alloc, default_settings(g), chooser);
     let mut checker = Checker::new(alloc, g, window);
-    check_all(rt, alloc, g, &mut sender, &mut checker, places)
+    check_all(rt, workers, alloc, g, &mut sender, &mut checker, places)
 }
 
 // Sends and receives all generated frames and the end, and answers how many samples differ.
-fn check_all<H: Threads + Copy + Send + Sync, F: Fn(&SliceNeed) -> u8, P: Places>(
+fn check_all<H: Threads + Copy + Send + Sync, F: Fn(&SliceNeed) -> u8 + Sync, P: Places>(
     rt: H,
+    workers: u32,
     alloc: Global,
     g: &GenSettings,
     sender: &mut Sender<F>,
@@ -107,7 +109,7 @@ fn check_all<H: Threads + Copy + Send + Sync, F: Fn(&SliceNeed) -> u8, P: Places
         → IfErr result (IsOneRefused (generating_view g.now)) }
     ensures told { AskedPlaces (P.told places.old) (P.told places.new) }
 {
-    check_frames(rt, alloc, g, sender, checker, places)?;
+    check_frames(rt, workers, alloc, g, sender, checker, places)?;
     match finish(sender, checker, places) {
         Ok(different) => Ok(different),
         Err(NoMemory) => Err(Ending::NoMemory),
@@ -115,8 +117,9 @@ fn check_all<H: Threads + Copy + Send + Sync, F: Fn(&SliceNeed) -> u8, P: Places
 }
 
 // Sends and receives all generated frames.
-fn check_frames<H: Threads + Copy + Send + Sync, F: Fn(&SliceNeed) -> u8, P: Places>(
+fn check_frames<H: Threads + Copy + Send + Sync, F: Fn(&SliceNeed) -> u8 + Sync, P: Places>(
     rt: H,
+    workers: u32,
     alloc: Global,
     g: &GenSettings,
     sender: &mut Sender<F>,
@@ -141,15 +144,16 @@ fn check_frames<H: Threads + Copy + Send + Sync, F: Fn(&SliceNeed) -> u8, P: Pla
             return Err(Ending::NoMemory);
         };
         let (frame, behind) = made;
-        check_frame(rt, &frame, sender, checker, places)?;
+        check_frame(rt, workers, &frame, sender, checker, places)?;
         state = behind;
     }
     Ok(())
 }
 
 // Sends a frame, and receives its datagrams.
-fn check_frame<H: Threads + Copy + Send + Sync, F: Fn(&SliceNeed) -> u8, P: Places>(
+fn check_frame<H: Threads + Copy + Send + Sync, F: Fn(&SliceNeed) -> u8 + Sync, P: Places>(
     rt: H,
+    workers: u32,
     frame: &[Plane; 3],
     sender: &mut Sender<F>,
     checker: &mut Checker,
@@ -170,7 +174,7 @@ fn check_frame<H: Threads + Copy + Send + Sync, F: Fn(&SliceNeed) -> u8, P: Plac
     ensures told { AskedPlaces (P.told places.old) (P.told places.new) }
     ensures below { PlacesAreBelow (P.bound places.new) checker.new.receiver.reception.out }
 {
-    match sender.send_frame_joined(rt, frame) {
+    match sender.send_frame_joined(rt, workers, frame) {
         Ok(datagrams) => match checker.take_all(&datagrams, places) {
             Ok(()) => Ok(()),
             Err(NoMemory) => Err(Ending::NoMemory),

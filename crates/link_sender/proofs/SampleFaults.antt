@@ -6,7 +6,7 @@ use Rattle.link_model.specs.SendingFaults.{SendFault, plane_fault, first_sample_
 use Rattle.link_model.specs.SendingPictures.{sent_parameters}
 use Rattle.link_sender.specs.Refusals.{SaysFault}
 use Rattle.link_sender.specs.declared.refusal.SendRefusal.{SendRefusal}
-use Rattle.link_sender.specs.declared.refusal.SendRefusal.TheVariants.{SampleRange, SliceTooLarge, NoMemory}
+use Rattle.link_sender.specs.declared.refusal.SendRefusal.TheVariants.{NoMemory}
 use Rattle.vc_types.specs.declared.shape.Shape.{Shape}
 use Rattle.vc_types.specs.Planes.{Planes}
 use Rattle.vc_types.specs.SenderSettings.{Sending}

@@ -13,7 +13,7 @@ ghost use Rattle.vc_types.specs.Planes.{planes_in};
 ghost use Rattle.vc_types.specs.SenderSettings.{packing_view, sending_view};
 
 use crate::datagram::Datagram;
-use crate::encoding::{FrameSlices, encode_frame};
+use crate::encoding::{FrameSlices, encode_frame, encode_frame_joined};
 use crate::outbox::Outbox;
 use crate::picture::Picture;
 use crate::place::{PicturePlace, picture_number, timestamp};
@@ -21,9 +21,7 @@ use crate::refusal::SendRefusal;
 use crate::samples::check_samples;
 use crate::sender::Sender;
 use crate::writing::write_end;
-use picture_encode::{
-    AtOnce, Chooser, EncodedSlice, InTurn, PictureGrids, Transform, header_of, plan_of,
-};
+use picture_encode::{Chooser, EncodedSlice, PictureGrids, header_of, plan_of};
 use std::alloc::Global;
 use std::thread::Threads;
 use vc_params::write_params;
@@ -68,49 +66,12 @@ impl<F: Fn(&SliceNeed) -> u8> Sender<F> {
             self.old.chooser.wants_lens (sending_view self.old.settings) (planes_in frame.now)
             (numbers_of self.old) (numbers_of self.new) result }
     {
-        self.send(&InTurn, frame)
-    }
-
-    /// The same, where luma is transformed beside the colours, by join.
-    pub fn send_frame_joined<H: Threads + Copy + Send + Sync>(
-        &mut self,
-        rt: H,
-        frame: &[Plane; 3],
-    ) -> Result<Vec<Datagram>, SendRefusal>
-        requires callable { F.IsAlwaysCallable self.old.chooser.choose }
-        requires range { AnswersAtMost127 F.Fn self.old.chooser.choose }
-        requires sizes { IsFrame (sending_view self.old.settings) (planes_in frame.now) }
-        ensures settings { self.new.settings ≡ self.old.settings }
-        ensures chooser { self.new.chooser ≡ self.old.chooser }
-        ensures value { SendsFrame (AnswersNeed F.Fn self.old.chooser.choose)
-            self.old.chooser.wants_lens (sending_view self.old.settings) (planes_in frame.now)
-            (numbers_of self.old) (numbers_of self.new) result }
-    {
-        self.send(&AtOnce { rt }, frame)
-    }
-
-    // The same, by either transform.
-    fn send<T: Transform>(
-        &mut self,
-        transform: &T,
-        frame: &[Plane; 3],
-    ) -> Result<Vec<Datagram>, SendRefusal>
-        requires callable { F.IsAlwaysCallable self.old.chooser.choose }
-        requires range { AnswersAtMost127 F.Fn self.old.chooser.choose }
-        requires sizes { IsFrame (sending_view self.old.settings) (planes_in frame.now) }
-        ensures settings { self.new.settings ≡ self.old.settings }
-        ensures chooser { self.new.chooser ≡ self.old.chooser }
-        ensures value { SendsFrame (AnswersNeed F.Fn self.old.chooser.choose)
-            self.old.chooser.wants_lens (sending_view self.old.settings) (planes_in frame.now)
-            (numbers_of self.old) (numbers_of self.new) result }
-    {
         check_samples(&self.plan, frame)?;
         let slices = encode_frame(
             self.alloc,
             &self.settings,
             &self.plan,
             &self.chooser,
-            transform,
             &mut self.grids,
             frame,
         )?;
@@ -229,6 +190,39 @@ impl<F: Fn(&SliceNeed) -> u8> Sender<F> {
             header,
             params,
         }
+    }
+}
+
+impl<F: Fn(&SliceNeed) -> u8 + Sync> Sender<F> {
+    /// The same as `send_frame`, by so many threads, at most 64: each encodes a part of a picture's
+    /// slices, and luma is transformed beside the colours. Fewer than two threads do all in turn.
+    pub fn send_frame_joined<H: Threads + Copy + Send + Sync>(
+        &mut self,
+        rt: H,
+        workers: u32,
+        frame: &[Plane; 3],
+    ) -> Result<Vec<Datagram>, SendRefusal>
+        requires callable { F.IsAlwaysCallable self.old.chooser.choose }
+        requires range { AnswersAtMost127 F.Fn self.old.chooser.choose }
+        requires sizes { IsFrame (sending_view self.old.settings) (planes_in frame.now) }
+        ensures settings { self.new.settings ≡ self.old.settings }
+        ensures chooser { self.new.chooser ≡ self.old.chooser }
+        ensures value { SendsFrame (AnswersNeed F.Fn self.old.chooser.choose)
+            self.old.chooser.wants_lens (sending_view self.old.settings) (planes_in frame.now)
+            (numbers_of self.old) (numbers_of self.new) result }
+    {
+        check_samples(&self.plan, frame)?;
+        let coded = encode_frame_joined(
+            rt,
+            workers,
+            self.alloc,
+            &self.settings,
+            &self.plan,
+            &self.chooser,
+            &mut self.grids,
+            frame,
+        )?;
+        Ok(self.put_frame(&coded)?)
     }
 }
 

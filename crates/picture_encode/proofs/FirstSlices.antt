@@ -1,14 +1,14 @@
--- The first slices of a picture, as they are encoded one after another.
-use Rattle.std.proofs.Common.{◌≡◌, ℕ, suc, ◌+◌, ◌<◌, Bool, true, false, cond, List, [], ◌∷◌, ◌++◌, length, map, Some, None, refl, sym, ap, subst, ◌∙◌, arith}
-use Rattle.std.specs.Prelude.{All}
+-- All slices of a picture, and those up to one that is refused.
+use Rattle.std.proofs.Common.{◌≡◌, ℕ, zero, suc, ◌+◌, ◌-◌, ◌<◌, Bool, true, false, cond, List, [], ◌∷◌, ◌++◌, length, map, Some, None, Result, Ok, Err, refl, sym, ap, subst, ◌∙◌, arith}
+use Rattle.std.specs.Prelude.{All, IfOk, IfErr}
+use Rattle.std.specs.Global.{Vec}
 use Rattle.std.specs.List.{AllZip, enumerate_from, range_with_len}
-use Rattle.std.proofs.lemmas.List.{map-append}
-use Rattle.std.proofs.lemmas.List.Elements.{All-nil, All-push}
+use Rattle.std.proofs.lemmas.List.Elements.{All-nil, All-cons}
 use Rattle.std.proofs.lemmas.List.FromFn.{map-range_with_len_more, length-map-range_with_len}
 use Rattle.link_model.specs.SendingFaults as faults
 use Rattle.link_model.specs.SendingFaults.{SendFault, first_of_slices, is_too_large, slice_fault}
 use Rattle.link_model.specs.SendingPictures.{Need, need_of, sent_parameters, sent_slice}
-use Rattle.picture_encode.specs.Encoded.{Chooses, IsSized, IsEncoded, IsRefusedSlice, AreFirstAnswers, AreFirstSlices, IsRefusedPicture, indices_of, slice_bytes}
+use Rattle.picture_encode.specs.Encoded.{Chooses, IsSized, IsEncoded, IsRefusedSlice, AreSlices, RefusesSlices, EncodesSlices, AreFirstAnswers, AreFirstSlices, IsRefusedPicture, indices_of, slice_bytes}
 use Rattle.picture_encode.specs.declared.refusal.SliceRefusal.{SliceRefusal}
 use Rattle.picture_encode.specs.declared.refusal.SliceRefusal.TheVariants.{SliceTooLarge, NoMemory}
 use Rattle.picture_encode.specs.declared.slices.EncodedSlice.{EncodedSlice}
@@ -61,23 +61,59 @@ module _ (s : Sending) (planes : Planes) where
       first true more e = absurd cc
       first false more e = more e
 
-  pub more_fit : (n index : ℕ) (zs : List (ℕ × ℕ)) → first_of_slices s planes zs ≡ None → is_too_large s planes n index ≡ false → first_of_slices s planes (zs ++ (n, index) ∷ []) ≡ None
-  more_fit n index zs h fits = behind zs ((n, index) ∷ []) h ∙ one_fits (n, index) [] fits ∙ none_left
-
   pub more_is_large : (n index : ℕ) (zs : List (ℕ × ℕ)) → first_of_slices s planes zs ≡ None → is_too_large s planes n index ≡ true → first_of_slices s planes (zs ++ (n, index) ∷ []) ≡ Some (slice_fault s planes n index)
   more_is_large n index zs h large = behind zs ((n, index) ∷ []) h ∙ one_is_large (n, index) [] large
 
 module _ (choice : Chooses) (wanted : Bool) (s : Sending) (planes : Planes) where
-  pub no_slices : (slices : List EncodedSlice) → slices ≡ [] → AreFirstSlices choice wanted s planes 0 slices
-  no_slices slices none = subst (λ (l : List EncodedSlice). AreFirstSlices choice wanted s planes 0 l) (sym none) (record {
-    answers = tt;
-    fit = none_left s planes;
-    sized = All-nil (IsSized s);
-    bytes_are = refl;
-  })
-
   pub no_memory : IsRefusedPicture choice wanted s planes NoMemory
   no_memory = record { count = 0; indices = []; some = omega arith; answers = tt; fault = tt }
+
+  -- ---- slices by their numbers
+
+  abbrev Encoded : ℕ → EncodedSlice → Type 0
+  Encoded = IsEncoded choice wanted s planes
+
+  abbrev piece : ℕ × ℕ → List ℕ
+  piece z = sent_slice (sent_parameters s) planes z.0 z.1
+
+  answers_of : (numbers : List ℕ) (slices : List EncodedSlice) → AllZip Encoded numbers slices → AllZip choice (map (need_of s wanted planes) numbers) (indices_of slices)
+  answers_of [] [] h = tt
+  answers_of [] (e ∷ slices) h = absurd h
+  answers_of (n ∷ numbers) [] h = absurd h
+  answers_of (n ∷ numbers) (e ∷ slices) h = (h.0.answer, answers_of numbers slices h.1)
+
+  sized_of : (numbers : List ℕ) (slices : List EncodedSlice) → AllZip Encoded numbers slices → All (IsSized s) (slice_bytes slices)
+  sized_of [] [] h = All-nil (IsSized s)
+  sized_of [] (e ∷ slices) h = absurd h
+  sized_of (n ∷ numbers) [] h = absurd h
+  sized_of (n ∷ numbers) (e ∷ slices) h = All-cons (IsSized s) e.bytes.items (slice_bytes slices) h.0.encoded.sized (sized_of numbers slices h.1)
+
+  fit_of : (a n : ℕ) (slices : List EncodedSlice) → AllZip Encoded (range_with_len a n) slices → first_of_slices s planes (enumerate_from a (indices_of slices)) ≡ None
+  fit_of a zero [] h = none_left s planes
+  fit_of a zero (e ∷ slices) h = absurd h
+  fit_of a (suc n) [] h = absurd h
+  fit_of a (suc n) (e ∷ slices) h = one_fits s planes (a, e.index) (enumerate_from (a + 1) (indices_of slices)) h.0.encoded.fits ∙ fit_of (a + 1) n slices h.1
+
+  bytes_of : (a n : ℕ) (slices : List EncodedSlice) → AllZip Encoded (range_with_len a n) slices → slice_bytes slices ≡ map piece (enumerate_from a (indices_of slices))
+  bytes_of a zero [] h = refl
+  bytes_of a zero (e ∷ slices) h = absurd h
+  bytes_of a (suc n) [] h = absurd h
+  bytes_of a (suc n) (e ∷ slices) h =
+      let rest = bytes_of (a + 1) n slices h.1 in
+      λ i. h.0.encoded.bytes_are i ∷ rest i
+
+  first_slices : (n : ℕ) (slices : List EncodedSlice) → AreSlices choice wanted s planes 0 n slices → AreFirstSlices choice wanted s planes n slices
+  first_slices n slices h =
+      let same : n - 0 ≡ n = omega arith in
+      let all : AllZip Encoded (range_with_len 0 n) slices = subst (λ (m : ℕ). AllZip Encoded (range_with_len 0 m) slices) same h in
+      record {
+        answers = answers_of (range_with_len 0 n) slices all;
+        fit = fit_of 0 n slices all;
+        sized = sized_of (range_with_len 0 n) slices all;
+        bytes_are = bytes_of 0 n slices all;
+      }
+
+  -- ---- slices up to one that is refused
 
   module _ (n : ℕ) (slices : List EncodedSlice) (first : AreFirstSlices choice wanted s planes n slices) where
     abbrev needs : ℕ → List Need
@@ -96,25 +132,7 @@ module _ (choice : Chooses) (wanted : Bool) (s : Sending) (planes : Planes) wher
         let at : 0 + length (indices_of slices) ≡ n = omega (arith, count_is) in
         enumerate_more 0 (indices_of slices) index ∙ ap (λ k. enumerate_from 0 (indices_of slices) ++ (k, index) ∷ []) at
 
-    abbrev piece : ℕ × ℕ → List ℕ
-    piece z = sent_slice (sent_parameters s) planes z.0 z.1
-
-    pub one_more : (e : EncodedSlice) (all : List EncodedSlice) → all ≡ slices ++ e ∷ [] → IsEncoded choice wanted s planes n e → AreFirstSlices choice wanted s planes (n + 1) all
-    one_more e all grown is =
-        let indices = map-append (λ (x : EncodedSlice). x.index) slices (e ∷ []) in
-        let bytes = map-append (λ (x : EncodedSlice). x.bytes.items) slices (e ∷ []) in
-        let at = ap (enumerate_from 0) indices ∙ numbered e.index in
-        subst (λ (l : List EncodedSlice). AreFirstSlices choice wanted s planes (n + 1) l) (sym grown) (record {
-          answers = subst (λ l. AreFirstAnswers choice wanted s planes (n + 1) l) (sym indices) (more_answers e.index is.answer);
-          fit = ap (first_of_slices s planes) at ∙ more_fit s planes n e.index (enumerate_from 0 (indices_of slices)) first.fit is.encoded.fits;
-          sized = subst (λ l. All (IsSized s) l) (sym bytes) (All-push (IsSized s) (slice_bytes slices) e.bytes.items first.sized is.encoded.sized);
-          bytes_are =
-              bytes
-              ∙ (λ i. first.bytes_are i ++ is.encoded.bytes_are i ∷ [])
-              ∙ sym (ap (map piece) at ∙ map-append piece (enumerate_from 0 (indices_of slices)) ((n, e.index) ∷ []));
-        })
-
-    pub one_refused : (e : SliceRefusal) → n < slice_count (sent_parameters s) → IsRefusedSlice choice wanted s planes n e → IsRefusedPicture choice wanted s planes e
+    one_refused : (e : SliceRefusal) → n < slice_count (sent_parameters s) → IsRefusedSlice choice wanted s planes n e → IsRefusedPicture choice wanted s planes e
     one_refused (SliceTooLarge m bytes) h is =
         let large = is.2.1 in
         record {
@@ -128,3 +146,18 @@ module _ (choice : Chooses) (wanted : Bool) (s : Sending) (planes : Planes) wher
               ∙ (λ i. Some (faults.SliceTooLarge (sym is.2.0 i) (sym large.needs i)));
         }
     one_refused NoMemory h is = no_memory
+
+  picture_refused : (n : ℕ) (e : SliceRefusal) → n ≡ slice_count (sent_parameters s) → RefusesSlices choice wanted s planes 0 n e → IsRefusedPicture choice wanted s planes e
+  picture_refused n (SliceTooLarge m bytes) all is =
+      one_refused is.slice is.before (first_slices is.slice is.before is.encoded) (SliceTooLarge m bytes) (omega (arith, is.within.1, all)) is.refused
+  picture_refused n NoMemory all is = no_memory
+
+  -- ---- a picture
+
+  pub picture_encoded : (n : ℕ) (r : Result (Vec EncodedSlice) SliceRefusal) → EncodesSlices choice wanted s planes 0 n r → IfOk r (λ slices. AreFirstSlices choice wanted s planes n slices.items)
+  picture_encoded n (Ok slices) is = first_slices n slices.items is
+  picture_encoded n (Err e) is = tt
+
+  pub picture_not_encoded : (n : ℕ) (r : Result (Vec EncodedSlice) SliceRefusal) → n ≡ slice_count (sent_parameters s) → EncodesSlices choice wanted s planes 0 n r → IfErr r (λ e. IsRefusedPicture choice wanted s planes e)
+  picture_not_encoded n (Ok slices) all is = tt
+  picture_not_encoded n (Err e) all is = picture_refused n e all is

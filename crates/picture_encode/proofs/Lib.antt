@@ -6,6 +6,8 @@ pub mod PackedBits
 mod SmallNumbers
 mod ThreeParts
 mod Judged
+mod SlicesInTurn
+mod JoinedParts
 mod FirstSlices
 mod PlanFacts
 mod BandParts

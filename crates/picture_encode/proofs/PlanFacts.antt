@@ -3,7 +3,7 @@ use Rattle.std.proofs.Common.{◌≡◌, ℕ, ◌+◌, ◌*◌, ◌≤◌, true,
 use Rattle.std.specs.Prelude.{nat_le}
 use Rattle.std.proofs.lemmas.Bool.Decides.{nat_tests}
 use Rattle.link_model.specs.SendingPictures.{sent_sequence}
-use Rattle.vc_types.specs.Limits.{padded, padded_luma_fits, slice_bytes_fit}
+use Rattle.vc_types.specs.Limits.{padded, padded_luma_fits, slice_bytes_fit, slices_fit}
 use Rattle.vc_types.specs.SenderSettings.{Sending}
 use Rattle.vc_types.specs.SequenceHeader.{picture_shape}
 use Rattle.vc_types.specs.Settings.{luma_fits, within}
@@ -28,3 +28,6 @@ padded_luma s shape same h =
 
 pub some_room : (size : ℕ) → within 64 65507 size ≡ true → 32 ≤ size
 some_room size h = grind (arith, nat_tests)
+
+pub few_slices : (across down : ℕ) → slices_fit across down ≡ true → across * down ≤ 131072
+few_slices across down h = grind (arith, nat_tests)

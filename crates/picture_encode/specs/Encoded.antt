@@ -1,5 +1,7 @@
 -- What the encoded slices of a picture are.
-use Rattle.std.specs.Prelude.{◌≡◌, ◌+◌, ◌≤◌, All, length, ⊤, ℕ, Bool, true, false, List, map, None}
+use Rattle.std.specs.Prelude.{◌≡◌, ◌+◌, ◌-◌, ◌<◌, ◌≤◌, All, length, ⊤, ℕ, Bool, true, false, List, map, None}
+use Rattle.std.specs.Prelude.{Result, Ok, Err}
+use Rattle.std.specs.Global.{Vec}
 use Rattle.std.specs.List.{AllZip, enumerate_from, range_with_len}
 use Rattle.link_model.specs.SendingFaults.{first_of_slices, is_too_large}
 use Rattle.link_model.specs.SendingPictures.{Need, need_of, sent_length, sent_parameters, sent_slice}
@@ -58,6 +60,36 @@ IsRefusedSlice choice wanted s planes slice NoMemory = ⊤
 IsRefusedSlice choice wanted s planes slice e =
     (index : ℕ) × choice (need_of s wanted planes slice) index
     × RefusesAt s planes slice index e
+
+-- ---- slices one after another
+
+-- the slices from one up to another were encoded
+abbrev pub AreSlices : Chooses → Bool → Sending → Planes → (from to : ℕ) → List EncodedSlice
+    → Type 0
+AreSlices choice wanted s planes from to slices =
+    AllZip (IsEncoded choice wanted s planes) (range_with_len from (to - from)) slices
+
+-- one of them was refused, and those before it were encoded
+pub record IsRefusedAmong (choice : Chooses) (wanted : Bool) (s : Sending) (planes : Planes)
+    (from to : ℕ) (e : SliceRefusal) : Type 0 where
+  pub slice : ℕ
+  pub within : (from ≤ slice) × (slice < to)
+  pub before : List EncodedSlice
+  pub encoded : AreSlices choice wanted s planes from slice before
+  pub refused : IsRefusedSlice choice wanted s planes slice e
+
+-- a refusal of one of them; want of memory says nothing
+abbrev pub RefusesSlices : Chooses → Bool → Sending → Planes → (from to : ℕ) → SliceRefusal
+    → Type 0
+RefusesSlices choice wanted s planes from to NoMemory = ⊤
+RefusesSlices choice wanted s planes from to e = IsRefusedAmong choice wanted s planes from to e
+
+abbrev pub EncodesSlices : Chooses → Bool → Sending → Planes → (from to : ℕ)
+    → Result (Vec EncodedSlice) SliceRefusal → Type 0
+EncodesSlices choice wanted s planes from to (Ok slices) =
+    AreSlices choice wanted s planes from to slices.items
+EncodesSlices choice wanted s planes from to (Err e) =
+    RefusesSlices choice wanted s planes from to e
 
 -- ---- the first slices of a picture
 

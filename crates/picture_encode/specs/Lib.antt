@@ -6,3 +6,4 @@ pub mod Copies
 pub mod Shapes
 pub mod Encoded
 pub mod Rows
+pub mod Parts

@@ -4,6 +4,8 @@
 mod chooser;
 mod gathering;
 mod grids;
+mod parts;
+mod picture;
 mod plan;
 mod refusal;
 mod rows;
@@ -12,7 +14,7 @@ mod transform;
 
 pub use chooser::Chooser;
 pub use grids::PictureGrids;
+pub use picture::{encode_picture, encode_picture_joined};
 pub use plan::{header_of, plan_of};
 pub use refusal::SliceRefusal;
-pub use slices::{EncodedSlice, encode_picture};
-pub use transform::{AtOnce, InTurn, Transform};
+pub use slices::EncodedSlice;

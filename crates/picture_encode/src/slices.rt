@@ -1,28 +1,23 @@
-ghost use Rattle.std.specs.Prelude.{◌≡◌, ◌<◌, ◌≤◌, [], ◌∷◌, ◌++◌, IfOk, IfErr, OnOk};
+ghost use Rattle.std.specs.Prelude.{◌≡◌, ◌≤◌, [], ◌∷◌, ◌++◌, IfOk, IfErr, OnOk};
 ghost use Rattle.link_model.specs.SendingPictures.{packed_bits, need_of, sent_parameters, told_lengths};
 ghost use Rattle.picture_encode.specs.Choosing.{AnswersAtMost127, AnswersNeed};
 ghost use Rattle.picture_encode.specs.Encoded.{IsEncodedAt, RefusesAt, IsEncoded, IsRefusedSlice};
-ghost use Rattle.picture_encode.specs.Encoded.{AreFirstSlices, IsRefusedPicture};
 ghost use Rattle.picture_encode.specs.Grids.{HaveCoefficients};
 ghost use Rattle.picture_encode.specs.PartsInGrids.{AreGrids, AreOf};
 ghost use Rattle.picture_encode.specs.Refusals.{refusal_of};
-ghost use Rattle.picture_encode.specs.Shapes.{CanBeTransformed};
 ghost use Rattle.vc_slice.specs.Bands.{AreCoefficients};
 ghost use Rattle.vc_types.specs.Bits.{bits_of};
-ghost use Rattle.vc_types.specs.Planes.{Planes, planes_in};
+ghost use Rattle.vc_types.specs.Planes.{Planes};
 ghost use Rattle.vc_types.specs.SenderSettings.{sending_view};
-ghost use Rattle.vc_types.specs.Subbands.{slice_count};
 ghost use Rattle.vc_types.specs.TransformParameters.{parameters_of};
 
 use crate::chooser::Chooser;
 use crate::gathering::gather;
 use crate::grids::PictureGrids;
 use crate::refusal::SliceRefusal;
-use crate::transform::Transform;
 use std::alloc::Global;
-use std::mem::replace;
 use vc_slice::{EncodeRefusal, SliceCoeffs, SliceParts, encode, encoded_lens};
-use vc_types::{NoMemory, Plan, Plane, SendSettings, SliceNeed};
+use vc_types::{NoMemory, SendSettings, SliceNeed};
 
 // The heads of the packet and of the payload in front of slices have so many bytes.
 const HEADS: u32 = 32;
@@ -39,60 +34,24 @@ fn bits_are_packed(bytes: &[u8])
     ensures { packed_bits (bits_of bytes.now) ≡ bytes.now }
 {}
 
-fn push(slices: &mut Vec<EncodedSlice>, slice: EncodedSlice) -> Result<(), NoMemory>
+/// Adds an encoded slice.
+pub(crate) fn push(slices: &mut Vec<EncodedSlice>, slice: EncodedSlice) -> Result<(), NoMemory>
     ensures { OnOk result (slices.new.items ≡ slices.old.items ++ slice ∷ []) }
 {
     slices.push(slice)?;
     Ok(())
 }
 
-/// Encodes the slices of a picture (ST 2042-1, high-quality slices): the forward transform of its
-/// planes, and each slice at the index that the chooser answers on what it is told of it, from 0 to
-/// 127. The plan is the one that the settings make, and the planes have its sizes and samples of
-/// its depths. The first slice that is too large, for its lengths or for a datagram, refuses the
-/// picture. Of the grids only the memory is used.
-pub fn encode_picture<F: Fn(&SliceNeed) -> u8, T: Transform>(
-    alloc: Global,
-    s: &SendSettings,
-    plan: &Plan,
-    chooser: &Chooser<F>,
-    transform: &T,
-    grids: &mut PictureGrids,
-    planes: &[Plane; 3],
-) -> Result<Vec<EncodedSlice>, SliceRefusal>
-    requires callable { F.IsAlwaysCallable chooser.now.choose }
-    requires range { AnswersAtMost127 F.Fn chooser.now.choose }
-    requires plan { parameters_of plan.now ≡ sent_parameters (sending_view s.now) }
-    requires planes { CanBeTransformed (parameters_of plan.now) (planes_in planes.now) }
-    ensures encoded { IfOk result (λ slices. AreFirstSlices
-        (AnswersNeed F.Fn chooser.now.choose) chooser.now.wants_lens (sending_view s.now)
-        (planes_in planes.now) (slice_count (parameters_of plan.now)) slices.items) }
-    ensures refused { IfErr result (λ e. IsRefusedPicture
-        (AnswersNeed F.Fn chooser.now.choose) chooser.now.wants_lens (sending_view s.now)
-        (planes_in planes.now) e) }
-{
-    let used = replace(grids, PictureGrids::new(alloc));
-    *grids = transform.transform(alloc, plan, planes, used)?;
-    let count = plan.slices_x * plan.slices_y;
-    let mut slices = Vec::with_capacity(alloc, count as usize)?;
-    for slice in 0..count {
-        let parts = SliceParts::new(plan, slice);
-        let sent = SentSlice { s, parts };
-        let encoded = encode_slice(alloc, &sent, chooser, grids)?;
-        push(&mut slices, encoded)?;
-    }
-    Ok(slices)
-}
-
 /// A slice of a picture that is sent: by these settings, in the plan that they make.
 #[derive(Clone, Copy)]
-struct SentSlice<'a> {
-    s: &'a SendSettings,
-    parts: SliceParts,
-    ghost sent: { parameters_of parts.plan ≡ sent_parameters (sending_view s.now) },
+pub(crate) struct SentSlice<'a> {
+    pub(crate) s: &'a SendSettings,
+    pub(crate) parts: SliceParts,
+    pub(crate) ghost sent: { parameters_of parts.plan ≡ sent_parameters (sending_view s.now) },
 }
 
-fn encode_slice<F: Fn(&SliceNeed) -> u8>(
+/// Encodes a slice at the index that the chooser answers.
+pub(crate) fn encode_slice<F: Fn(&SliceNeed) -> u8>(
     alloc: Global,
     sent: &SentSlice<'_>,
     chooser: &Chooser<F>,

@@ -18,67 +18,48 @@ use vc_geometry::padded;
 use vc_types::{Component, NoMemory, Plan, Plane};
 use vc_wave::{forward, forward_fits_narrow, forward_narrow};
 
-/// How the three components of a picture are transformed.
-pub trait Transform {
-    /// The coefficients of a picture's planes, in the memory of other grids where that is as large.
-    fn transform(
-        &self,
-        alloc: Global,
-        plan: &Plan,
-        planes: &[Plane; 3],
-        used: PictureGrids,
-    ) -> Result<PictureGrids, NoMemory>
-        requires { CanBeTransformed (parameters_of plan.now) (planes_in planes.now) }
-        ensures { IfOk result
-            (λ g. HaveCoefficients (parameters_of plan.now) (planes_in planes.now) g) };
+/// The coefficients of a picture's planes, in the memory of other grids where that is as large: of
+/// one component after another.
+pub(crate) fn transform_picture(
+    alloc: Global,
+    plan: &Plan,
+    planes: &[Plane; 3],
+    used: PictureGrids,
+) -> Result<PictureGrids, NoMemory>
+    requires { CanBeTransformed (parameters_of plan.now) (planes_in planes.now) }
+    ensures { IfOk result
+        (λ g. HaveCoefficients (parameters_of plan.now) (planes_in planes.now) g) }
+{
+    Ok(PictureGrids {
+        y: component(alloc, plan, planes, Component::Y, used.y)?,
+        c1: component(alloc, plan, planes, Component::C1, used.c1)?,
+        c2: component(alloc, plan, planes, Component::C2, used.c2)?,
+    })
 }
 
-/// One component after another.
-#[derive(Drop)]
-pub struct InTurn;
-
-impl Transform for InTurn {
-    fn transform(
-        &self,
-        alloc: Global,
-        plan: &Plan,
-        planes: &[Plane; 3],
-        used: PictureGrids,
-    ) -> Result<PictureGrids, NoMemory> {
-        Ok(PictureGrids {
-            y: component(alloc, plan, planes, Component::Y, used.y)?,
-            c1: component(alloc, plan, planes, Component::C1, used.c1)?,
-            c2: component(alloc, plan, planes, Component::C2, used.c2)?,
-        })
-    }
-}
-
-/// Luma beside the colours, by join.
-#[derive(Drop)]
-pub struct AtOnce<H> {
-    pub rt: H,
-}
-
-impl<H: Threads + Copy + Send + Sync> Transform for AtOnce<H> {
-    fn transform(
-        &self,
-        alloc: Global,
-        plan: &Plan,
-        planes: &[Plane; 3],
-        used: PictureGrids,
-    ) -> Result<PictureGrids, NoMemory> {
-        let PictureGrids { y, c1, c2 } = used;
-        let (y, (c1, c2)) = join(
-            &self.rt,
-            || component(alloc, plan, planes, Component::Y, y),
-            || colours(alloc, plan, planes, c1, c2),
-        );
-        Ok(PictureGrids {
-            y: y?,
-            c1: c1?,
-            c2: c2?,
-        })
-    }
+/// The same, luma beside the colours, by join.
+pub(crate) fn transform_picture_joined<H: Threads>(
+    rt: &H,
+    alloc: Global,
+    plan: &Plan,
+    planes: &[Plane; 3],
+    used: PictureGrids,
+) -> Result<PictureGrids, NoMemory>
+    requires { CanBeTransformed (parameters_of plan.now) (planes_in planes.now) }
+    ensures { IfOk result
+        (λ g. HaveCoefficients (parameters_of plan.now) (planes_in planes.now) g) }
+{
+    let PictureGrids { y, c1, c2 } = used;
+    let (y, (c1, c2)) = join(
+        rt,
+        || component(alloc, plan, planes, Component::Y, y),
+        || colours(alloc, plan, planes, c1, c2),
+    );
+    Ok(PictureGrids {
+        y: y?,
+        c1: c1?,
+        c2: c2?,
+    })
 }
 
 // The coefficients of both colour components, one after another.

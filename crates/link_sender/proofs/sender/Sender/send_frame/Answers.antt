@@ -4,7 +4,7 @@ use Rattle.picture_encode.specs.Choosing.{AnswersNeed}
 use Rattle.vc_types.specs.Planes.{planes_in}
 use Rattle.vc_types.specs.SenderSettings.{sending_view}
 use Rattle.link_sender.proofs.Frames.{are_pictures, is_sent, none_for_frame, samples_refuse, slices_refuse}
-use Rattle.link_sender.proofs.sender.Sender.send.Goals as goal
+use Rattle.link_sender.proofs.sender.Sender.send_frame.Goals as goal
 
 pub returns-in_err-check_samples-clause-value : goal.returns-in_err-check_samples-clause-value
 returns-in_err-check_samples-clause-value g c = grind (arith, common_steps, samples_refuse)

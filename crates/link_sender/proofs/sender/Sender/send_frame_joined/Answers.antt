@@ -1,0 +1,29 @@
+use Rattle.std.proofs.Common.{sym, arith, rules}
+use Rattle.std.proofs.lemmas.Grind.{common_steps}
+use Rattle.picture_encode.specs.Choosing.{AnswersNeed}
+use Rattle.vc_types.specs.Planes.{planes_in}
+use Rattle.vc_types.specs.SenderSettings.{sending_view}
+use Rattle.link_sender.proofs.Frames.{are_pictures, is_sent, none_for_frame, samples_refuse, slices_refuse}
+use Rattle.link_sender.proofs.sender.Sender.send_frame_joined.Goals as goal
+
+pub returns-in_err-check_samples-clause-value : goal.returns-in_err-check_samples-clause-value
+returns-in_err-check_samples-clause-value g c = grind (arith, common_steps, samples_refuse)
+
+pub encode_frame_joined-requires-clause-samples : goal.encode_frame_joined-requires-clause-samples
+encode_frame_joined-requires-clause-samples g c =
+    let sound = c.in_ok-check_samples.ensures.sound (sending_view c.args.self.now.settings) (sym c.args.self.now.plan_is) in
+    search rules
+
+pub returns-in_err-coded-clause-value : goal.returns-in_err-coded-clause-value
+returns-in_err-coded-clause-value g c = grind (arith, common_steps, slices_refuse)
+
+pub put_frame-requires : goal.put_frame-requires
+put_frame-requires g c =
+    let sender = c.args.self.now in
+    record { whole = are_pictures (AnswersNeed g.F.Fn sender.chooser.choose) sender.chooser.wants_lens (sending_view sender.settings) (planes_in c.args.frame.now) c.in_ok-coded.coded c.in_ok-coded.ensures }
+
+pub returns-in_err-put_frame-clause-value : goal.returns-in_err-put_frame-clause-value
+returns-in_err-put_frame-clause-value g c = grind (arith, common_steps, none_for_frame)
+
+pub returns-clause-value : goal.returns-clause-value
+returns-clause-value g c = grind (arith, common_steps, is_sent)
