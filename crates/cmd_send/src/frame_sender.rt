@@ -16,18 +16,25 @@ use vc_types::{NoMemory, Plane, SendSettings, SliceNeed};
 /// Sends frames to an outlet, and counts what goes out.
 #[derive(Drop)]
 pub(crate) struct FrameSender<F> {
+    workers: u32,
     pub(crate) sender: Sender<F>,
     pub(crate) totals: Totals,
 }
 
-impl<F: Fn(&SliceNeed) -> u8> FrameSender<F> {
-    /// One that has sent nothing.
-    pub(crate) fn new(alloc: Global, s: SendSettings, chooser: Chooser<F>) -> FrameSender<F>
+impl<F: Fn(&SliceNeed) -> u8 + Sync> FrameSender<F> {
+    /// One that has sent nothing. So many threads will encode each frame.
+    pub(crate) fn new(
+        alloc: Global,
+        s: SendSettings,
+        chooser: Chooser<F>,
+        workers: u32,
+    ) -> FrameSender<F>
         ensures chooser { result.sender.chooser ≡ chooser }
         ensures settings { result.sender.settings ≡ s }
         ensures behind { IsBehindFrames (sending_view s) [] result }
     {
         FrameSender {
+            workers,
             sender: Sender::new(alloc, s, chooser),
             totals: Totals {
                 frames: 0,
@@ -62,7 +69,7 @@ impl<F: Fn(&SliceNeed) -> u8> FrameSender<F> {
             → TakesFrame (sending_view self.old.sender.settings) sent (planes_in frame.now) self.new
             (O.carried outlet.old outlet.new) (O.broke outlet.old outlet.new) result }
     {
-        match self.sender.send_frame_joined(rt, frame) {
+        match self.sender.send_frame_joined(rt, self.workers, frame) {
             Ok(datagrams) => match self.totals.put_all(&datagrams, outlet) {
                 Ok(()) => {
                     self.totals.frames += 1;

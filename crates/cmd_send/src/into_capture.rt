@@ -12,9 +12,11 @@ use vc_types::SendSettings;
 
 /// Encodes at most so many raw frames: reads them one after another, up to one that is refused or the end
 /// of the input, and writes the entries of the datagrams that carry each, and at the end of the input that
-/// of the end of the sequence. Raw frames and captures are this project's own.
+/// of the end of the sequence. Raw frames and captures are this project's own. So many threads, at most 64,
+/// encode each frame.
 pub fn encode<H: Threads + Copy + Send + Sync, S: Source, O: Sink>(
     rt: H,
+    workers: u32,
     alloc: Global,
     s: &SendSettings,
     frames: u32,
@@ -26,7 +28,7 @@ pub fn encode<H: Threads + Copy + Send + Sync, S: Source, O: Sink>(
         (output_of O.held O.faults output.old output.new) }
 {
     let mut outlet = CaptureOutlet::new(output);
-    match send_frames(rt, alloc, s, frames, input, &mut outlet) {
+    match send_frames(rt, workers, alloc, s, frames, input, &mut outlet) {
         Ok(totals) => Ok(totals.summary()),
         Err(ending) => Err(ending),
     }

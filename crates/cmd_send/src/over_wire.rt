@@ -17,9 +17,10 @@ use vc_types::SendSettings;
 /// Sends at most so many raw frames to an address: aims the wire, and then reads frames one after another,
 /// up to one that is refused or the end of the input, and sends the datagrams that carry each, and at the
 /// end of the input that of the end of the sequence (RFC 8450). Raw frames are this project's own. Where
-/// the wire can't be aimed, nothing is read.
+/// the wire can't be aimed, nothing is read. So many threads, at most 64, encode each frame.
 pub fn send<H: Threads + Copy + Send + Sync, S: Source, N: Wire>(
     rt: H,
+    workers: u32,
     alloc: Global,
     s: &SendSettings,
     frames: u32,
@@ -35,12 +36,13 @@ pub fn send<H: Threads + Copy + Send + Sync, S: Source, N: Wire>(
         return Err(Ending::WireFailed);
     };
     let mut outlet = WireOutlet::new(wire);
-    send_through(rt, alloc, s, frames, input, &mut outlet)
+    send_through(rt, workers, alloc, s, frames, input, &mut outlet)
 }
 
 // Sends frames to a wire that is aimed.
 fn send_through<H: Threads + Copy + Send + Sync, S: Source, N: Wire>(
     rt: H,
+    workers: u32,
     alloc: Global,
     s: &SendSettings,
     frames: u32,
@@ -54,7 +56,7 @@ fn send_through<H: Threads + Copy + Send + Sync, S: Source, N: Wire>(
         (SentAll (wire_of N.told N.faults outlet.old.wire.now outlet.new.wire.now))
         (SentPart (wire_of N.told N.faults outlet.old.wire.now outlet.new.wire.now)) }
 {
-    let sent = send_frames(rt, alloc, s, frames, input, outlet);
+    let sent = send_frames(rt, workers, alloc, s, frames, input, outlet);
     answer(sent)
 }
 

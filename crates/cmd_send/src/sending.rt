@@ -10,7 +10,7 @@ ghost use Rattle.vc_ports.specs.Faults.{HasCause};
 ghost use Rattle.vc_types.specs.Limits.{shape_fits};
 ghost use Rattle.vc_types.specs.SenderSettings.{sending_view};
 
-use crate::fitting::least_fitting;
+use crate::fitting::{least_fitting, share_fitting};
 use crate::frame_sender::FrameSender;
 use crate::shape::frame_shape;
 use crate::totals::Totals;
@@ -26,10 +26,11 @@ use vc_types::{IndexChoice, SendSettings, Shape, SliceNeed};
 /// Sends at most so many raw frames: reads them one after another, up to one that is refused or the end of
 /// the input, and puts the datagrams that carry each, and at the end of the input that of the end of the
 /// sequence. Raw frames are this project's own. The datagrams of a frame go out before the next is read,
-/// and one frame and its datagrams are kept, and luma is transformed beside the colours, which no clause
-/// says.
+/// one frame and its datagrams are kept, and so many threads, at most 64, encode each frame, which no clause
+/// says. Fewer than two threads do all in turn.
 pub fn send_frames<H: Threads + Copy + Send + Sync, S: Source, O: Outlet>(
     rt: H,
+    workers: u32,
     alloc: Global,
     s: &SendSettings,
     frames: u32,
@@ -44,18 +45,24 @@ pub fn send_frames<H: Threads + Copy + Send + Sync, S: Source, O: Outlet>(
     match s.choice {
         IndexChoice::Index(index) => {
             let chooser = Chooser::new(false, |_need: &SliceNeed| index);
-            send_by(rt, alloc, s, frames, chooser, input, outlet)
+            send_by(rt, workers, alloc, s, frames, chooser, input, outlet)
         }
         IndexChoice::Fit(bytes) => {
+            let bytes = u64::from(bytes);
             let chooser = Chooser::new(true, |need: &SliceNeed| least_fitting(&need.lens, bytes));
-            send_by(rt, alloc, s, frames, chooser, input, outlet)
+            send_by(rt, workers, alloc, s, frames, chooser, input, outlet)
+        }
+        IndexChoice::Budget(bytes) => {
+            let chooser = Chooser::new(true, |need: &SliceNeed| share_fitting(s, bytes, need));
+            send_by(rt, workers, alloc, s, frames, chooser, input, outlet)
         }
     }
 }
 
 // The same by a chooser that chooses as the settings do.
-fn send_by<H: Threads + Copy + Send + Sync, F: Fn(&SliceNeed) -> u8, S: Source, O: Outlet>(
+fn send_by<H: Threads + Copy + Send + Sync, F: Fn(&SliceNeed) -> u8 + Sync, S: Source, O: Outlet>(
     rt: H,
+    workers: u32,
     alloc: Global,
     s: &SendSettings,
     frames: u32,
@@ -72,7 +79,7 @@ fn send_by<H: Threads + Copy + Send + Sync, F: Fn(&SliceNeed) -> u8, S: Source, 
         (input_of S.left S.faults input.old input.new)
         (O.carried outlet.old outlet.new) (O.broke outlet.old outlet.new) }
 {
-    let mut sender = FrameSender::new(alloc, *s, chooser);
+    let mut sender = FrameSender::new(alloc, *s, chooser, workers);
     send_each(
         rt,
         alloc,
@@ -86,7 +93,7 @@ fn send_by<H: Threads + Copy + Send + Sync, F: Fn(&SliceNeed) -> u8, S: Source, 
 }
 
 // Sends the frames of an input, at most so many. It is well where the input ended behind them.
-fn send_each<H: Threads + Copy + Send + Sync, F: Fn(&SliceNeed) -> u8, S: Source, O: Outlet>(
+fn send_each<H: Threads + Copy + Send + Sync, F: Fn(&SliceNeed) -> u8 + Sync, S: Source, O: Outlet>(
     rt: H,
     alloc: Global,
     frames: u32,

@@ -1,8 +1,8 @@
 -- The law as it is told.
 use Rattle.std.proofs.Common.{◌≡◌, ℕ, List, ap, ◌∙◌}
 use Rattle.cmd_send.specs.FramesSent.{stream_sent}
-use Rattle.law_index_zero.specs.FramesToSend.{AreFramesToSend}
-use Rattle.law_index_zero.proofs.StreamsBack.{stream_back}
+use Rattle.law_indices.specs.FramesToSend.{AreFramesToSend}
+use Rattle.law_indices.proofs.StreamsBack.{stream_back}
 use Rattle.link_model.specs.Output.{full_output}
 use Rattle.link_model.specs.Sending.{frames_indices}
 use Rattle.law_round_trips.specs.RoundTrip.{EncodedFramesComeBack, IsRawVideo}

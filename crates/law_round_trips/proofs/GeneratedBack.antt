@@ -5,9 +5,9 @@ use Rattle.field_pairs.specs.Sizes.{AreWhole}
 use Rattle.cmd_gen.specs.Differences.{differences}
 use Rattle.cmd_gen.proofs.WholeFrames.{no_differences}
 use Rattle.cmd_gen.specs.Generating.{generated_bytes}
-use Rattle.law_index_zero.specs.FramesToSend.{AreFramesToSend}
-use Rattle.law_index_zero.specs.IndexZero.{raw_video}
-use Rattle.law_index_zero.proofs.StreamsBack.{stream_back}
+use Rattle.law_indices.specs.FramesToSend.{AreFramesToSend}
+use Rattle.law_indices.specs.IndexZero.{raw_video}
+use Rattle.law_indices.proofs.StreamsBack.{stream_back}
 use Rattle.link_gen.proofs.Frames.{generated_count}
 use Rattle.link_gen.proofs.States.{samples_count}
 use Rattle.link_gen.specs.Defaults.{all_generated, sent_by_default, shape_of_frames}

@@ -4,7 +4,7 @@ use Rattle.std.proofs.lemmas.Grind.{common_steps}
 use Rattle.frame_writer.specs.WholeFrames.{HoldFrames}
 use Rattle.cmd_send.specs.FramesSent.{frame_shape, stream_sent}
 use Rattle.cmd_send.specs.Sends.{HasSentAll, SendsFrames}
-use Rattle.law_index_zero.proofs.StreamsBack.{stream_back}
+use Rattle.law_indices.proofs.StreamsBack.{stream_back}
 use Rattle.link_model.specs.Output.{full_output}
 use Rattle.link_model.specs.Sending.{frames_indices, pictures_per_frame}
 use Rattle.link_model.specs.declared.tally.Tally.{Tally}

@@ -10,8 +10,8 @@ use Rattle.frame_writer.specs.FrameBytes.{frame_length, frame_of_bytes, plane_le
 use Rattle.frame_writer.specs.WholeFrames.{HoldFrames}
 use Rattle.frame_writer.proofs.Holding.{bytes_are}
 use Rattle.frame_writer.proofs.ReadBack.{frame_back}
-use Rattle.law_index_zero.specs.IndexZero.{raw_frame, raw_video}
-use Rattle.law_index_zero.proofs.Among.{All-back, All-front}
+use Rattle.law_indices.specs.IndexZero.{raw_frame, raw_video}
+use Rattle.law_indices.proofs.Among.{All-back, All-front}
 use Rattle.link_model.specs.SendingPictures.{IsFrame, sent_sequence}
 use Rattle.vc_types.specs.declared.shape.Shape.{Shape}
 use Rattle.vc_types.specs.declared.video.Component.TheVariants.{C1, Y}

@@ -4,9 +4,9 @@ use Rattle.std.proofs.lemmas.List.Concat.{flat_map-cons}
 use Rattle.std.proofs.lemmas.List.Elements.{All-head, All-tail, All-weaker}
 use Rattle.link_hearing.proofs.Within.{within_entry, within_nothing}
 use Rattle.link_outside.specs.Outlets.{capture_of}
-use Rattle.law_index_zero.proofs.FittingRuns.{room_few, run_is}
-use Rattle.law_index_zero.proofs.FramePictures.{AreFaultless, all_pictures, no_slice_fault}
-use Rattle.law_index_zero.proofs.SentStream.{are_sound, IsOfPicture, IsSent, all_sent, count}
+use Rattle.law_indices.proofs.FittingRuns.{room_few, run_is}
+use Rattle.law_indices.proofs.FramePictures.{AreFaultless, all_pictures, no_slice_fault}
+use Rattle.law_indices.proofs.SentStream.{are_sound, IsOfPicture, IsSent, all_sent, count}
 use Rattle.link_sender.proofs.Heads.{short_parameters_of, short_header}
 use Rattle.link_capture.specs.Capture.{entries_within}
 use Rattle.link_model.specs.Packets.{fragment_bytes, payload_bytes, payload_head, rtp_header}

@@ -9,10 +9,10 @@ use Rattle.std.proofs.lemmas.List.Concat.{flat_map-cons}
 use Rattle.std.proofs.lemmas.List.FromFn.{length-range_with_len}
 use Rattle.std.proofs.lemmas.Option.{slice_get-get_or, slice_get_within}
 use Rattle.cmd_send.specs.FramesSent.{AreSendable, frame_fault, frame_indices}
-use Rattle.law_index_zero.specs.FramesToSend.{AreAtIndexZero, slices_per_frame}
-use Rattle.law_index_zero.proofs.Among.{among_all, among_from}
-use Rattle.law_index_zero.proofs.FramePictures.{all_pictures, length-all_pictures, pictures_many}
-use Rattle.law_index_zero.proofs.SentStream.{count}
+use Rattle.law_indices.specs.FramesToSend.{AreAtIndexZero, slices_per_frame}
+use Rattle.law_indices.proofs.Among.{among_all, among_from}
+use Rattle.law_indices.proofs.FramePictures.{all_pictures, length-all_pictures, pictures_many}
+use Rattle.law_indices.proofs.SentStream.{count}
 use Rattle.link_model.specs.Sending.{frames_indices, pictures_of, pictures_per_frame}
 use Rattle.link_model.specs.SendingFaults.{first_of_slices, first_sample_fault, first_slice_fault, send_fault}
 use Rattle.link_model.specs.SendingPictures.{Need, chosen_by, chosen_index, chosen_indices, picture_needs, sent_parameters, slices_with_indices, wants_lengths}

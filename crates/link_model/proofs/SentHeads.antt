@@ -39,6 +39,9 @@ pub record IsBetween (low high number : ℕ) : Type 0 where
 pub between : (low high number : ℕ) → IsTrue (nat_le low number && nat_le number high) → IsBetween low high number
 between low high number fits = grind arith
 
+bytes_fit : (prefix scaler : ℕ) → prefix ≤ 255 → IsTrue (nat_le 1 scaler && nat_le scaler 255) → slice_bytes_fit prefix scaler ≡ true
+bytes_fit prefix scaler few some = grind arith
+
 module _ (settings : SendSettings) where
   abbrev s : Sending
   s = sending_view settings
@@ -53,7 +56,7 @@ module _ (settings : SendSettings) where
   coded_header-sent behind = header_again (sent_sequence s) (sent_header s) behind form settings.dimensions (bits_of-filled (header_bits (encoder_header (sent_sequence s))))
 
   slice_bytes : slice_bytes_fit settings.prefix settings.scaler ≡ true
-  slice_bytes = grind (arith, between)
+  slice_bytes = bytes_fit settings.prefix settings.scaler settings.prefix_fits settings.scaler_fits
 
   padded_luma : padded_luma_fits (picture_shape (sent_sequence s)) 0 settings.depth ≡ true
   unfolding picture_shape sent_sequence

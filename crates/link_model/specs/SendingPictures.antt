@@ -1,11 +1,12 @@
 -- What this project's sender makes of a picture: the bytes of its sequence header and of its
 -- transform parameters, its coefficients, and each slice at its quantisation index; and how the
 -- index of a slice is chosen.
-use Rattle.std.specs.Prelude.{◌≡◌, ℕ, ◌-◌, Bool, true, false, nat_le, min, List, [], ◌∷◌, map, take}
+use Rattle.std.specs.Prelude.{◌≡◌, ℕ, ◌+◌, ◌-◌, ◌*◌, ◌/◌, Bool, true, false, nat_le, min, List, [], ◌∷◌}
+use Rattle.std.specs.Prelude.{map, take}
 use Rattle.std.specs.Prelude.{unwrap_or, ℤ}
 use Rattle.std.specs.List.{range_with_len, enumerate_from, position_or_len}
 use Rattle.vc_types.specs.declared.choice.IndexChoice.{IndexChoice}
-use Rattle.vc_types.specs.declared.choice.IndexChoice.TheVariants.{Index, Fit}
+use Rattle.vc_types.specs.declared.choice.IndexChoice.TheVariants.{Index, Fit, Budget}
 use Rattle.vc_types.specs.declared.video.Component.{Component}
 use Rattle.vc_types.specs.declared.video.Component.TheVariants.{Y, C1, C2}
 use Rattle.vc_types.specs.Bits.{number_of}
@@ -155,10 +156,18 @@ picture_needs s wanted planes =
 unfoldable pub least_fitting : ℕ → List ℕ → ℕ
 least_fitting bytes lengths = min (position_or_len (λ len. nat_le len bytes) lengths) 127
 
--- one index for all of a picture's slices, which are so many, or for each the least that fits a budget
+-- a slice's share of a budget for a picture's slices, which are so many: up to each slice the shares come to
+-- the same part of the budget as the slices do of the picture, rounded down
+unfoldable pub budget_share : (bytes slices slice : ℕ) → ℕ
+budget_share bytes slices slice = (slice + 1) * bytes / slices - slice * bytes / slices
+
+-- one index for all of a picture's slices, which are so many, or for each the least that fits so many bytes,
+-- or that fits its share of a budget
 abbrev pub chosen_by : (slices : ℕ) → IndexChoice → Need → ℕ
 chosen_by slices (Index index) need = index
 chosen_by slices (Fit bytes) need = least_fitting bytes need.lengths
+chosen_by slices (Budget bytes) need =
+    least_fitting (budget_share bytes slices need.slice) need.lengths
 
 abbrev pub chosen_index : Sending → Need → ℕ
 chosen_index s need = chosen_by (slice_count (sent_parameters s)) s.choice need
@@ -166,6 +175,7 @@ chosen_index s need = chosen_by (slice_count (sent_parameters s)) s.choice need
 abbrev pub wants_lengths : IndexChoice → Bool
 wants_lengths (Index index) = false
 wants_lengths (Fit bytes) = true
+wants_lengths (Budget bytes) = true
 
 -- the indices of a picture's slices, as the settings choose them
 unfoldable pub chosen_indices : Sending → Planes → List ℕ

@@ -1,7 +1,7 @@
 -- What the settings of a sender and of a generator have to be (this project's own).
 use Rattle.std.specs.Prelude.{ℕ, ◌+◌, ◌*◌, ◌/◌, ◌%◌, Bool, ◌&&◌, ◌||◌, not, nat_le, ◌==◌}
 use Rattle.vc_types.specs.declared.choice.IndexChoice.{IndexChoice}
-use Rattle.vc_types.specs.declared.choice.IndexChoice.TheVariants.{Index, Fit}
+use Rattle.vc_types.specs.declared.choice.IndexChoice.TheVariants.{Index, Fit, Budget}
 use Rattle.vc_types.specs.Video.{picture_height}
 use Rattle.vc_types.specs.Limits.{padded, slices_fit}
 
@@ -13,6 +13,7 @@ within low high number = nat_le low number && nat_le number high
 abbrev pub choice_fits : IndexChoice → Bool
 choice_fits (Index index) = nat_le index 127
 choice_fits (Fit bytes) = within 4 65535 bytes
+choice_fits (Budget bytes) = within 4 4294967295 bytes
 
 -- the padded luma of a picture has at most 8,912,896 samples
 abbrev pub luma_fits : ℕ → ℕ → Bool → ℕ → Bool

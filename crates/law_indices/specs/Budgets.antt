@@ -1,0 +1,31 @@
+-- A budget for the slices of a picture, and what they have of it.
+use Rattle.std.specs.Prelude.{◌≡◌, ◌<◌, ◌≤◌, ℕ, List, length}
+use Rattle.link_model.specs.SendingPictures.{budget_share, chosen_indices, sent_length}
+use Rattle.link_model.specs.SendingPictures.{sent_parameters, sent_slices}
+use Rattle.vc_types.specs.declared.choice.IndexChoice.TheVariants.{Budget}
+use Rattle.vc_types.specs.declared.settings.SendSettings.{SendSettings}
+use Rattle.vc_types.specs.Fields.{joined}
+use Rattle.vc_types.specs.Planes.{Planes}
+use Rattle.vc_types.specs.SenderSettings.{Sending, sending_view}
+use Rattle.vc_types.specs.Subbands.{slice_count}
+
+-- a slice has an index at which it has at most so many bytes
+abbrev pub CanKeep : Sending → Planes → (slice bytes : ℕ) → Type 0
+CanKeep s planes slice bytes = (index : ℕ) × (index < 128)
+    × (sent_length (sent_parameters s) planes slice index ≤ bytes)
+
+-- each slice of a picture can keep to its share
+abbrev pub CanKeepShares : Sending → Planes → (bytes : ℕ) → Type 0
+CanKeepShares s planes bytes = (slice : ℕ) → slice < slice_count (sent_parameters s)
+    → CanKeep s planes slice (budget_share bytes (slice_count (sent_parameters s)) slice)
+
+-- the bytes of all slices of a picture, at the indices that the settings choose
+abbrev pub slice_bytes : Sending → Planes → List ℕ
+slice_bytes s planes = joined (sent_slices (sent_parameters s) planes (chosen_indices s planes))
+
+-- Where each slice of a picture can keep to its share, all of them together keep to the budget.
+abbrev pub BudgetsAreKept : Type 0
+BudgetsAreKept = (settings : SendSettings) (planes : Planes) (bytes : ℕ)
+    → settings.choice ≡ Budget bytes
+    → CanKeepShares (sending_view settings) planes bytes
+    → length (slice_bytes (sending_view settings) planes) ≤ bytes

@@ -1,0 +1,4 @@
+pub mod HeardStreams
+pub mod FramesToSend
+pub mod IndexZero
+pub mod Budgets
