@@ -1,0 +1,8 @@
+pub mod Records
+pub mod RecordSteps
+pub mod Streams
+pub mod Passing
+pub mod FeedSteps
+pub mod Splits
+pub mod Files
+pub mod FileRows

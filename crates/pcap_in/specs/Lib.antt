@@ -1,0 +1,4 @@
+pub mod Pcap
+pub mod Frames
+pub mod Reading
+pub mod Feeding
