@@ -1,16 +1,15 @@
 -- What a command came to: datagrams were heard since workers were started, and then the end.
-use Rattle.std.proofs.Common.{◌≡◌, true, false, ◌≤◌, ℕ, List, [], ◌∷◌, Option, Ok, Err, refl, ap, ◌∙◌, sym, subst, arith, inl, inr, ◌++◌}
+use Rattle.std.proofs.Common.{◌≡◌, true, false, ◌≤◌, ℕ, List, [], ◌∷◌, Option, None, Some, Ok, Err, refl, ap, ◌∙◌, sym, arith, inl, inr}
 use Rattle.std.specs.Prelude.{Result, ◌⊎◌}
 use Rattle.link_model.specs.Judgement.{no_counts, outcomes_behind, tally_of, with_sessions}
 use Rattle.link_model.specs.Output.{all_output, full_output}
 use Rattle.link_model.specs.declared.tally.Tally.{Tally}
-use Rattle.link_outside.specs.Outlets.{capture_of}
 use Rattle.link_receiver.proofs.Asked.{grows_twice}
 use Rattle.link_receiver.proofs.Hired.{started}
 use Rattle.link_receiver.specs.HeardLists.{OutputForm, AsFrames, HasHeard}
 use Rattle.link_receiver.specs.StartedWorkers.{HasStarted}
 use Rattle.link_report.specs.declared.answer.Answer.{Answer}
-use Rattle.link_report.specs.declared.answer.Answer.TheVariants.{Done, Drained, Stopped}
+use Rattle.link_report.specs.declared.answer.Answer.TheVariants.{Done, Drained, WithRecords, Stopped}
 use Rattle.link_report.specs.declared.ending.Ending.{Ending}
 use Rattle.link_report.specs.declared.ending.Ending.TheVariants.{InputFailed, NoMemory, OutputFailed, PacketLimit, WireFailed}
 use Rattle.link_report.specs.declared.summary.Summary.{Summary}
@@ -21,17 +20,20 @@ use Rattle.vc_ports.specs.Changes.{Change, InputChange, OutputChange, WireChange
 use Rattle.vc_ports.specs.Wires.{WireTold, listening}
 use Rattle.vc_slice.specs.Asked.{Told, Grows, starting, told_more}
 use Rattle.cmd_receive.proofs.Asking.{nothing_offered}
-use Rattle.link_hearing.proofs.CaptureSplits.{failed_so, read_all, read_until, split, splits}
-use Rattle.link_hearing.proofs.HeardEntries.{capture_breaks, capture_hears}
+use Rattle.link_hearing.proofs.HeardInputs.{failed_so, read_all, read_until, so_breaks, so_hears}
 use Rattle.cmd_receive.proofs.HeardWire.{wire_breaks, wire_hears}
 use Rattle.cmd_receive.proofs.Listened.{breaks_at_end, heard_all, heard_part}
-use Rattle.link_hearing.specs.Capture.{CaptureSplit}
-use Rattle.cmd_receive.specs.Decoding.{CaptureEnded, HasGivenWork, StartsWorkers, TakesCapture, has_failed_input}
+use Rattle.link_hearing.specs.Inputs.{InputEnded, datagrams_in, records_in}
+use Rattle.link_hearing.specs.declared.form.InputForm.{InputForm}
+use Rattle.link_hearing.specs.declared.heard.Heard.{Heard}
+use Rattle.link_hearing.specs.declared.heard.RecordCounts.{RecordCounts}
+use Rattle.cmd_receive.specs.Decoding.{HasGivenWork, InputTaken, StartsWorkers, TakesInput, counted_so, has_failed_input}
 use Rattle.link_hearing.specs.Hearing.{CanGoOn, fault_ending, has_broken}
-use Rattle.cmd_receive.specs.Concluding.{Concludes}
+use Rattle.cmd_receive.specs.Concluding.{Concludes, with_records}
 use Rattle.cmd_receive.specs.WireInletLaws.{told_between}
-use Rattle.cmd_receive.specs.Playouts.{PlayoutState, BreaksOff, HandsWereOffered, HasEndedSince, Hears, PlaysCapture, Stumbles}
-use Rattle.cmd_receive.specs.Receiving.{HeardAt, IsJudged, ReceivesFrom, RecvEnded, has_failed_wire}
+use Rattle.cmd_receive.specs.Playouts.{PlayoutState, BreaksOff, HandsWereOffered, HasEndedSince, Hears, PlaysInput, Stumbles}
+use Rattle.cmd_receive.specs.Receiving.{IsJudged, ReceivesFrom, RecvEnded}
+use Rattle.link_hearing.specs.FromWire.{HeardAt, has_failed_wire}
 use Rattle.cmd_receive.specs.Sessions.{HearsWire, WireHeard}
 
 -- ---- workers
@@ -118,47 +120,115 @@ module _ (form : OutputForm) (window workers : ℕ) (before : Option Told) (x y 
       → answer ≡ Stopped OutputFailed → HasRisen (output x y).faults
   output_did answer c is = (rw is at c).1
 
-  -- ---- a capture
+  -- ---- an input
 
-  module _ {mid : PlayoutState} (packets : ℕ) (input : InputChange)
-      (h : PlaysCapture packets input x mid heard) (is_of : h.datagrams ≡ ds) where
-    ended : (answer : Answer) → CameTo form window x y ds heard answer
-        → CaptureEnded form window packets answer input (output x y) (split packets input h)
-    ended (Done (Judged tally)) c = record {
-      reading = read_all packets input h c.0;
+  -- the counts of records change nothing of it
+  offers_so : (counts : Option RecordCounts) (answer : Answer)
+      → StartsWorkers window workers answer (hands before y) ds
+      → StartsWorkers window workers (with_records counts answer) (hands before y) ds
+  offers_so None answer started = started
+  offers_so (Some counts) (Done summary) started = started
+  offers_so (Some counts) (Drained summary end) started = started
+  offers_so (Some counts) (Stopped end) started = started
+  offers_so (Some counts) (WithRecords summary records other end) started = started
+
+  module _ {mid : PlayoutState} (source : InputForm) (packets : ℕ) (input : InputChange) (told : Heard)
+      (h : PlaysInput source packets input x mid told) (ended_is : told.ended ≡ heard)
+      (is_of : datagrams_in source packets h.given ≡ ds) where
+    abbrev Taken : Answer → Type 0
+    Taken answer = InputTaken form window packets source answer input (output x y) h.given
+
+    tally_is : (tally : Tally) → tally ≡ tally_of window ds
+        → tally ≡ tally_of window (datagrams_in source packets h.given)
+    tally_is tally is = is ∙ ap (tally_of window) (sym is_of)
+
+    -- to the end
+    done_so : (tally : Tally) → (heard ≡ Ok tt) × HasEndedSince form window x.held x.asked y ds tally
+        → (counts : Option RecordCounts) → counts ≡ records_in source packets h.given
+        → Taken (with_records counts (Done (Judged tally)))
+    done_so tally c None none = record {
+      end = None;
+      reading = read_all packets input h (ended_is ∙ c.0);
       wrote = rw is_of c.1.wrote;
-      tally_is = rw is_of c.1.counted;
+      counted = ap (λ (r : Option RecordCounts). counted_so r tally None) none
+          ∙ ap (λ (t : Tally). counted_so (records_in source packets h.given) t None) (tally_is tally c.1.counted);
     }
-    ended (Drained (Judged tally) end) c = record {
-      reading = read_until packets input h end c.1 c.0;
+    done_so tally c (Some counts) some = record {
+      end = None;
+      reading = read_all packets input h (ended_is ∙ c.0);
+      wrote = rw is_of c.1.wrote;
+      counted = ap (λ (r : Option RecordCounts). counted_so r tally None) some
+          ∙ ap (λ (t : Tally). counted_so (records_in source packets h.given) t None) (tally_is tally c.1.counted);
+    }
+
+    -- up to an ending
+    drained_so_far : (tally : Tally) (end : Ending) → (heard ≡ Err end) × (has_broken end ≡ false)
+        × HasEndedSince form window x.held x.asked y ds tally
+        → (counts : Option RecordCounts) → counts ≡ records_in source packets h.given
+        → Taken (with_records counts (Drained (Judged tally) end))
+    drained_so_far tally end c None none = record {
+      end = Some end;
+      reading = read_until packets input h end c.1 (ended_is ∙ c.0);
       wrote = rw is_of c.2.wrote;
-      tally_is = rw is_of c.2.counted;
+      counted = ap (λ (r : Option RecordCounts). counted_so r tally (Some end)) none
+          ∙ ap (λ (t : Tally). counted_so (records_in source packets h.given) t (Some end)) (tally_is tally c.2.counted);
     }
-    ended (Stopped NoMemory) c = rw is_of (heard_part new c)
-    ended (Stopped OutputFailed) c = rw is_of (heard_part new c.0)
-    ended (Stopped end) c = absurd c
+    drained_so_far tally end c (Some counts) some = record {
+      end = Some end;
+      reading = read_until packets input h end c.1 (ended_is ∙ c.0);
+      wrote = rw is_of c.2.wrote;
+      counted = ap (λ (r : Option RecordCounts). counted_so r tally (Some end)) some
+          ∙ ap (λ (t : Tally). counted_so (records_in source packets h.given) t (Some end)) (tally_is tally c.2.counted);
+    }
+
+    stopped_so : (end : Ending) → BreaksOff x y ds end → Taken (Stopped end)
+    stopped_so NoMemory c = rw is_of (heard_part new c)
+    stopped_so OutputFailed c = rw is_of (heard_part new c.0)
+    stopped_so end c = absurd c
+
+    stopped_with : (counts : Option RecordCounts) (end : Ending) → Taken (Stopped end)
+        → Taken (with_records counts (Stopped end))
+    stopped_with None end t = t
+    stopped_with (Some counts) end t = t
+
+    ended : (answer : Answer) → CameTo form window x y ds heard answer
+        → Taken (with_records told.records answer)
+    ended (Done (Judged tally)) c = done_so tally c told.records h.counted
+    ended (Drained (Judged tally) end) c = drained_so_far tally end c told.records h.counted
+    ended (Stopped end) c = stopped_with told.records end (stopped_so end c)
     ended answer c = absurd c
 
-    input_did : (answer : Answer) → CameTo form window x y ds heard answer
-        → has_failed_input answer → HasRisen input.faults
-    input_did answer c failed =
-        failed_so packets input h
-        (drained_so form window x y ds heard failed.0 InputFailed (rw failed.1 at c))
+    by_counts : (counts : Option RecordCounts) (answer : Answer) → CameTo form window x y ds heard answer
+        → has_failed_input (with_records counts answer) → heard ≡ Err InputFailed
+    by_counts None (Drained summary end) c failed =
+        let is : end ≡ InputFailed = cc failed in drained_so form window x y ds heard summary end c ∙ ap Err is
+    by_counts (Some counts) (Drained summary end) c failed =
+        let is : end ≡ InputFailed = cc failed in drained_so form window x y ds heard summary end c ∙ ap Err is
+    by_counts None (Done summary) c failed = absurd (cc failed)
+    by_counts (Some counts) (Done summary) c failed = absurd (cc failed)
+    by_counts None (Stopped end) c failed = absurd (cc failed)
+    by_counts (Some counts) (Stopped end) c failed = absurd (cc failed)
+    by_counts counts (WithRecords summary records other end) c failed = absurd c
 
-    capture_taken : (answer : Answer) → CameTo form window x y ds heard answer
-        → TakesCapture form window workers packets answer input (output x y) (hands before y)
-    capture_taken answer c =
-        let is = splits packets input h in
-        record {
-          given = capture_of h.datagrams ++ h.part;
-          took = h.gave.took;
-          ended = subst (λ (s : CaptureSplit). CaptureEnded form window packets answer input (output x y) s)
-              is (ended answer c);
-          input_failed = input_did answer c;
-          output_failed = output_did answer c;
-          workers_started = subst (λ (l : List (List ℕ)). StartsWorkers window workers answer (hands before y) l)
-              (sym is_of ∙ ap (λ (s : CaptureSplit). s.datagrams) is) (workers_did answer c);
-        }
+    writing_did : (counts : Option RecordCounts) (answer : Answer) → CameTo form window x y ds heard answer
+        → with_records counts answer ≡ Stopped OutputFailed → HasRisen (output x y).faults
+    writing_did None answer c is = output_did answer c is
+    writing_did (Some counts) (Done summary) c is = absurd cc
+    writing_did (Some counts) (Drained summary end) c is = absurd cc
+    writing_did (Some counts) (Stopped end) c is = output_did (Stopped end) c is
+    writing_did (Some counts) (WithRecords summary records other end) c is = absurd c
+
+    input_taken : (answer : Answer) → CameTo form window x y ds heard answer
+        → TakesInput form window workers packets source (with_records told.records answer) input
+        (output x y) (hands before y)
+    input_taken answer c = record {
+      given = h.given;
+      took = h.took;
+      ended = ended answer c;
+      input_failed = λ failed. failed_so packets input h (ended_is ∙ by_counts told.records answer c failed);
+      output_failed = writing_did told.records answer c;
+      workers_started = rw is_of (offers_so told.records answer (workers_did answer c));
+    }
 
   -- ---- a wire
 
@@ -205,37 +275,39 @@ module _ (form : OutputForm) (window workers : ℕ) (before : Option Told) (x y 
     recv_ended new (Stopped end) c = absurd c
     recv_ended new answer c = absurd c
 
--- all of a capture was taken
-pub took_capture : (form : OutputForm) (window workers packets : ℕ) (input : InputChange)
-    (before : Option Told) (x mid y : PlayoutState) (heard : Result (Unit {0}) Ending) (answer : Answer)
+-- all of an input was taken
+pub took_input : (form : OutputForm) (window workers packets : ℕ) (source : InputForm) (input : InputChange)
+    (before : Option Told) (x mid y : PlayoutState) (told : Heard) (answer : Answer)
     → HasHeard form x.receiver window [] → Grows before x.asked (starting workers (Ok tt))
-    → PlaysCapture packets input x mid heard → Concludes mid y heard answer
-    → TakesCapture form window workers packets answer input
+    → PlaysInput source packets input x mid told → Concludes mid y told.ended answer
+    → TakesInput form window workers packets source (with_records told.records answer) input
     (output x y) (hands before y)
-took_capture form window workers packets input before x mid y heard answer new grew h c =
-    capture_taken form window workers before x y h.datagrams heard new grew packets input h refl answer
-    (came_to y new heard hears breaks answer c)
+took_input form window workers packets source input before x mid y told answer new grew h c =
+    input_taken form window workers before x y (datagrams_in source packets h.given) told.ended new grew source
+    packets input told h refl refl
+    answer (came_to y new told.ended hears breaks answer c)
   where
-    hears : CanGoOn heard → Hears x mid h.datagrams
-    hears can = capture_hears packets 1 input (Hears x mid)
-        (λ l fault. BreaksOff x mid l (fault_ending fault)) ⊥ h.datagrams h.part heard can h.did
+    hears : CanGoOn told.ended → Hears x mid (datagrams_in source packets h.given)
+    hears can = so_hears (Hears x mid) (λ l fault. BreaksOff x mid l (fault_ending fault)) ⊥ input (datagrams_in source packets h.given)
+        (λ end. InputEnded source packets end input h.given) told.ended can h.did
 
-    breaks : (end : Ending) → has_broken end ≡ true → heard ≡ Err end → BreaksOff x mid h.datagrams end
+    breaks : (end : Ending) → has_broken end ≡ true → told.ended ≡ Err end
+        → BreaksOff x mid (datagrams_in source packets h.given) end
     breaks end broken is =
-        let b = capture_breaks packets 1 input (Hears x mid)
-        (λ l fault. BreaksOff x mid l (fault_ending fault)) ⊥ h.datagrams h.part end broken (rw is at h.did) in
+        let b = so_breaks (Hears x mid) (λ l fault. BreaksOff x mid l (fault_ending fault)) ⊥ input (datagrams_in source packets h.given)
+        (λ end. InputEnded source packets end input h.given) end broken (rw is at h.did) in
         rw b.1 b.2
 
 -- what was lent comes back as it was left
 module _ (O P : Type 0) (held : O → Option (List ℕ)) (faults : O → ℕ) (asked : P → Option Told)
     (o_old o_first o_left o_end : O) (p_old p_left p_end : P) where
-  pub capture_back : (form : OutputForm) (window workers packets : ℕ) (input : InputChange)
-      (answer : Answer) → TakesCapture form window workers packets answer input
+  pub input_back : (form : OutputForm) (window workers packets : ℕ) (source : InputForm)
+      (input : InputChange) (answer : Answer) → TakesInput form window workers packets source answer input
       (output_of held faults o_first o_left) (changed asked p_old p_left)
       → o_first ≡ o_old → o_end ≡ o_left → p_end ≡ p_left
-      → TakesCapture form window workers packets answer input
+      → TakesInput form window workers packets source answer input
       (output_of held faults o_old o_end) (changed asked p_old p_end)
-  capture_back form window workers packets input answer took first o_is p_is =
+  input_back form window workers packets source input answer took first o_is p_is =
       rw (← first, o_is, p_is) took
 
   module _ (N : Type 0) (told : N → WireTold) (wire_faults : N → ℕ) (n_old n_left n_end : N) where
@@ -280,14 +352,15 @@ took_datagrams window workers packets sessions at told listens after i j k befor
 -- ---- nothing was begun
 
 -- no workers were started
-pub not_started : (form : OutputForm) (window workers packets : ℕ) (input : InputChange)
-    (output : OutputChange) (hands : Change (Option Told)) → Stays input.left → Stays output.held
-    → Stays hands → TakesCapture form window workers packets (Stopped NoMemory) input output hands
-not_started form window workers packets input output hands input_stays output_stays hands_stay = record {
+pub not_started : (form : OutputForm) (window workers packets : ℕ) (source : InputForm)
+    (input : InputChange) (output : OutputChange) (hands : Change (Option Told)) → Stays input.left
+    → Stays output.held → Stays hands
+    → TakesInput form window workers packets source (Stopped NoMemory) input output hands
+not_started form window workers packets source input output hands input_stays output_stays hands_stay = record {
   given = [];
   took = rw input_stays (Gave-none input.left.before);
   ended = rw output_stays (GrewBySome-none output.held.before _);
-  input_failed = λ failed. absurd (cc failed.1);
+  input_failed = λ failed. absurd (cc failed);
   output_failed = λ failed. absurd cc;
   workers_started = inr hands_stay;
 }

@@ -2,7 +2,6 @@
 use Rattle.std.proofs.Common.{◌≡◌, ℕ, ◌+◌, ◌-◌, ◌<◌, Bool, true, false, cond, List, [], ◌∷◌, ◌++◌, Some, refl, ap, sym, ◌∙◌, arith}
 use Rattle.std.specs.Prelude.{not, ◌||◌}
 use Rattle.std.proofs.lemmas.Bool.{false≢true}
-use Rattle.std.proofs.lemmas.List.Sums.{sum_by-cons}
 use Rattle.link_model.specs.Judgement.{outcome_behind}
 use Rattle.link_model.specs.Session.{Session, HeardSession, just_opened, opens_next, with_datagram, last_with, hears, sessions_of, begins, ends}
 use Rattle.link_model.specs.declared.outcome.Outcome.{Outcome}
@@ -11,14 +10,10 @@ use Rattle.link_model.proofs.Hearing.{sessions_of_more, hears_new, hears_on}
 use Rattle.link_model.proofs.OpeningOutcomes.{new_is_opening}
 use Rattle.link_model.proofs.SessionOutcomes.{opening_is_new, end_is_end}
 use Rattle.cmd_receive.specs.declared.count.SessionCount.{SessionCount}
-use Rattle.cmd_receive.specs.Ends.{ended_in, is_last_open, Counts, count_behind}
+use Rattle.link_hearing.proofs.SessionEnds.{ended-cons}
+use Rattle.link_hearing.specs.Sessions.{ended_in}
+use Rattle.cmd_receive.specs.Ends.{is_last_open, Counts, count_behind}
 use Rattle.cmd_receive.proofs.EndOutcomes.{end_is_of_last}
-
-abbrev has_ended_count : HeardSession → ℕ
-has_ended_count h = cond h.has_ended 1 0
-
-pub ended-cons : (h : HeardSession) (hs : List HeardSession) → ended_in (h ∷ hs) ≡ has_ended_count h + ended_in hs
-ended-cons h hs = sum_by-cons has_ended_count h hs
 
 pub none-more : (n : ℕ) → 0 + n ≡ n
 none-more n = omega arith

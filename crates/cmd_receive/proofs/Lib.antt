@@ -4,7 +4,7 @@ pub mod Arriving
 pub mod HeardWire
 pub mod Wanted
 pub mod Concluded
-pub mod PlayedCaptures
+pub mod PlayedInputs
 pub mod DecodeCompletes
 pub mod LoopCompletes
 pub mod Outcomes
@@ -13,4 +13,3 @@ pub mod LoopAnswers
 pub mod RecvCompletes
 pub mod EndOutcomes
 pub mod Counting
-pub mod Rising

@@ -2,7 +2,8 @@
 use Rattle.std.proofs.Common.{◌≡◌, ℕ, ◌<◌, List, [], ◌∷◌, ◌++◌, take, length, subst, arith, append-nil}
 use Rattle.link_model.specs.Judgement.{outcome_behind}
 use Rattle.link_model.specs.declared.outcome.Outcome.{Outcome}
-use Rattle.cmd_receive.specs.Ends.{Counts, ended_sessions}
+use Rattle.link_hearing.specs.Sessions.{ended_sessions}
+use Rattle.cmd_receive.specs.Ends.{Counts}
 use Rattle.cmd_receive.specs.Playouts.{PlayoutState, Judges}
 use Rattle.cmd_receive.specs.Sessions.{HearsWanted}
 use Rattle.cmd_receive.specs.declared.count.SessionCount.{SessionCount}

@@ -1,4 +1,4 @@
--- What decoding a capture, or unpacking it, did, by how it ended.
+-- What decoding a capture or a pcap file, or unpacking it, did, by how it ended.
 use Rattle.std.specs.Prelude.{◌≡◌, ◌⊎◌, ℕ, List, [], ◌∷◌, Option, None, Some}
 use Rattle.link_model.specs.Judgement.{tally_of}
 use Rattle.link_model.specs.Session.{sessions_of}
@@ -7,41 +7,54 @@ use Rattle.link_receiver.specs.HeardLists.{OutputForm, AsFrames, AsUnits, due_in
 use Rattle.link_receiver.specs.StartedWorkers.{HasStarted}
 use Rattle.receiver_model.specs.Offered.{AreAllOffered}
 use Rattle.link_report.specs.declared.answer.Answer.{Answer}
-use Rattle.link_report.specs.declared.answer.Answer.TheVariants.{Done, Stopped, Drained}
+use Rattle.link_report.specs.declared.answer.Answer.TheVariants.{Done, Stopped, Drained, WithRecords}
 use Rattle.link_report.specs.declared.ending.Ending.{Ending}
 use Rattle.link_report.specs.declared.ending.Ending.TheVariants.{NoMemory, InputFailed, OutputFailed}
-use Rattle.link_report.specs.declared.summary.Summary.{Summary}
 use Rattle.link_report.specs.declared.summary.Summary.TheVariants.{Judged}
 use Rattle.vc_ports.specs.Changes.{Change, InputChange, OutputChange, HasRisen, Took, Wrote}
 use Rattle.vc_ports.specs.Changes.{WrotePart, Stays}
 use Rattle.vc_slice.specs.Asked.{Told, Grows}
-use Rattle.link_hearing.specs.Capture.{CaptureSplit, capture_split, ReadingEnded}
+use Rattle.link_hearing.specs.Inputs.{InputEnded, datagrams_in, records_in}
+use Rattle.link_hearing.specs.declared.form.InputForm.{InputForm}
+use Rattle.link_hearing.specs.declared.heard.RecordCounts.{RecordCounts}
 
 -- ---- input and output
 
--- all that is due of the datagrams that were read was written, and these are their counts
-pub record IsTaken
-    (form : OutputForm) (window packets : ℕ) (end : Option Ending) (tally : Tally)
-    (input : InputChange) (output : OutputChange) (s : CaptureSplit) : Type 0 where
-  pub reading : ReadingEnded packets end input s
-  pub wrote : Wrote output (due_in_all form window s.datagrams)
-  pub tally_is : tally ≡ tally_of window s.datagrams
+-- the counts of so many datagrams, and of a pcap file those of its records, to the end or up to an ending
+abbrev pub counted_so : Option RecordCounts → Tally → Option Ending → Answer
+counted_so None tally None = Done (Judged tally)
+counted_so None tally (Some end) = Drained (Judged tally) end
+counted_so (Some counts) tally end = WithRecords (Judged tally) counts.records counts.other end
 
-abbrev pub CaptureEnded : OutputForm → ℕ → ℕ → Answer → InputChange → OutputChange → CaptureSplit
-    → Type 0
-CaptureEnded form window packets (Done (Judged tally)) input output s =
-    IsTaken form window packets None tally input output s
-CaptureEnded form window packets (Drained (Judged tally) end) input output s =
-    IsTaken form window packets (Some end) tally input output s
-CaptureEnded form window packets (Stopped NoMemory) input output s =
-    WrotePart output (due_in_all form window s.datagrams)
-CaptureEnded form window packets (Stopped OutputFailed) input output s =
-    WrotePart output (due_in_all form window s.datagrams)
-CaptureEnded form window packets answer input output s = ⊥
+-- all that is due of the datagrams that were read was written, and these are the counts
+pub record IsTaken
+    (writes : OutputForm) (window packets : ℕ) (form : InputForm) (answer : Answer)
+    (input : InputChange) (output : OutputChange) (given : List ℕ) : Type 0 where
+  pub end : Option Ending
+  pub reading : InputEnded form packets end input given
+  pub wrote : Wrote output (due_in_all writes window (datagrams_in form packets given))
+  pub counted : answer ≡ counted_so (records_in form packets given)
+      (tally_of window (datagrams_in form packets given)) end
+
+abbrev pub InputTaken : OutputForm → (window packets : ℕ) → InputForm → Answer → InputChange
+    → OutputChange → (given : List ℕ) → Type 0
+InputTaken writes window packets form (Stopped NoMemory) input output given =
+    WrotePart output (due_in_all writes window (datagrams_in form packets given))
+InputTaken writes window packets form (Stopped OutputFailed) input output given =
+    WrotePart output (due_in_all writes window (datagrams_in form packets given))
+InputTaken writes window packets form (Stopped end) input output given = ⊥
+InputTaken writes window packets form answer input output given =
+    IsTaken writes window packets form answer input output given
+
+-- why it read no further, where it wrote what it had heard
+abbrev pub drained_by : Answer → Option Ending
+drained_by (Drained summary end) = Some end
+drained_by (WithRecords summary records other end) = end
+drained_by answer = None
 
 -- a read failed
 abbrev pub has_failed_input : Answer → Type 0
-has_failed_input answer = (summary : Summary) × (answer ≡ Drained summary InputFailed)
+has_failed_input answer = drained_by answer ≡ Some InputFailed
 
 -- ---- workers
 
@@ -65,25 +78,24 @@ StartsWorkers window workers answer hands datagrams =
 -- ---- the bytes that the input gave
 
 -- their datagrams were heard, and what is due of them was written
-pub record TakesCapture
-    (form : OutputForm) (window workers packets : ℕ) (answer : Answer)
+pub record TakesInput
+    (writes : OutputForm) (window workers packets : ℕ) (form : InputForm) (answer : Answer)
     (input : InputChange) (output : OutputChange) (hands : Change (Option Told)) : Type 0 where
   pub given : List ℕ
   pub took : Took input given
-  pub ended : CaptureEnded form window packets answer input output (capture_split packets given)
+  pub ended : InputTaken writes window packets form answer input output given
   pub input_failed : has_failed_input answer → HasRisen input.faults
   pub output_failed : answer ≡ Stopped OutputFailed → HasRisen output.faults
-  pub workers_started : StartsWorkers window workers answer hands
-      (capture_split packets given).datagrams
+  pub workers_started : StartsWorkers window workers answer hands (datagrams_in form packets given)
 
 -- as raw frames
-abbrev pub Decodes : (window workers packets : ℕ) → Answer → InputChange → OutputChange
+abbrev pub Decodes : (window workers packets : ℕ) → InputForm → Answer → InputChange → OutputChange
     → Change (Option Told) → Type 0
-Decodes window workers packets answer input output hands =
-    TakesCapture AsFrames window workers packets answer input output hands
+Decodes window workers packets form answer input output hands =
+    TakesInput AsFrames window workers packets form answer input output hands
 
 -- as the elementary stream of the first session
-abbrev pub Unpacks : (window workers packets : ℕ) → Answer → InputChange → OutputChange
+abbrev pub Unpacks : (window workers packets : ℕ) → InputForm → Answer → InputChange → OutputChange
     → Change (Option Told) → Type 0
-Unpacks window workers packets answer input output hands =
-    TakesCapture AsUnits window workers packets answer input output hands
+Unpacks window workers packets form answer input output hands =
+    TakesInput AsUnits window workers packets form answer input output hands

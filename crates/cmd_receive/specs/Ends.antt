@@ -1,18 +1,11 @@
--- How many sessions of a list of datagrams have had their end (this project's profile), and a count
--- of those still to end.
+-- A count of the sessions that are still to end, as their datagrams are judged one after another.
 use Rattle.std.specs.Prelude.{◌≡◌, ℕ, ◌+◌, ◌-◌, Bool, true, false, not}
-use Rattle.std.specs.Prelude.{if◌then◌else◌, List, [], ◌∷◌, count_by}
+use Rattle.std.specs.Prelude.{if◌then◌else◌, List, [], ◌∷◌}
+use Rattle.link_hearing.specs.Sessions.{ended_sessions}
 use Rattle.link_model.specs.Session.{HeardSession, sessions_of}
 use Rattle.link_model.specs.declared.outcome.Outcome.{Outcome}
 use Rattle.link_model.specs.declared.outcome.Outcome.TheVariants as outcomes
 use Rattle.cmd_receive.specs.declared.count.SessionCount.{SessionCount}
-
--- those that have had their end: more than one end of a session counts once
-abbrev pub ended_in : List HeardSession → ℕ
-ended_in hs = count_by (λ h. h.has_ended) hs
-
-abbrev pub ended_sessions : List (List ℕ) → ℕ
-ended_sessions datagrams = ended_in (sessions_of datagrams)
 
 -- the last of some sessions, the last one first, has not had its end
 abbrev pub is_last_open : List HeardSession → Bool

@@ -17,7 +17,10 @@ use Rattle.vc_ports.specs.Changes.{Change, InputChange}
 use Rattle.vc_ports.specs.Faults.{Rose}
 use Rattle.vc_ports.specs.Writing.{Grew, GrewBySome}
 use Rattle.vc_slice.specs.Asked.{Told, Grows}
-use Rattle.link_hearing.specs.Hearing.{HearsCapture, fault_ending}
+use Rattle.link_hearing.specs.Hearing.{fault_ending}
+use Rattle.link_hearing.specs.Inputs.{HearsInput}
+use Rattle.link_hearing.specs.declared.form.InputForm.{InputForm}
+use Rattle.link_hearing.specs.declared.heard.Heard.{Heard}
 use Rattle.link_hearing.specs.declared.listener.ListenerFault.{ListenerFault}
 use Rattle.link_hearing.specs.declared.listener.ListenerFault.TheVariants as faults
 use Rattle.cmd_receive.specs.declared.playout.Playout.{Playout}
@@ -133,12 +136,12 @@ abbrev pub TakesEnd : (x y : PlayoutState) → Result Tally ListenerFault → Ty
 TakesEnd x y (Ok tally) = Drains x y tally
 TakesEnd x y (Err fault) = BreaksOff x y [] (fault_ending fault)
 
--- ---- a capture
+-- ---- an input
 
--- the datagrams of its entries were heard, at most so many, and one byte more was read at the limit
-abbrev pub PlaysCapture : ℕ → InputChange → (x y : PlayoutState) → Result (Unit {0}) Ending → Type 0
-PlaysCapture packets input x y result = HearsCapture packets 1 input (Hears x y)
-    (λ datagrams fault. BreaksOff x y datagrams (fault_ending fault)) ⊥ result
+-- its datagrams were heard
+abbrev pub PlaysInput : InputForm → ℕ → InputChange → (x y : PlayoutState) → Heard → Type 0
+PlaysInput form packets input x y told = HearsInput form packets input (Hears x y)
+    (λ datagrams fault. BreaksOff x y datagrams (fault_ending fault)) ⊥ told
 
 -- ---- how it fails
 

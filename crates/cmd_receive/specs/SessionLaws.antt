@@ -6,7 +6,7 @@ use Rattle.std.specs.Prelude.{◌⊎◌}
 use Rattle.std.proofs.Math.Seq.{take-append-add}
 use Rattle.std.proofs.lemmas.Bool.{cases_lt}
 use Rattle.std.proofs.lemmas.List.{take-append-le}
-use Rattle.cmd_receive.specs.Ends.{ended_sessions}
+use Rattle.link_hearing.specs.Sessions.{ended_sessions}
 use Rattle.cmd_receive.specs.HearingLaws.{hears_then, none_heard}
 use Rattle.cmd_receive.specs.Playouts.{PlayoutState}
 use Rattle.cmd_receive.specs.Sessions.{CountsOn, HearsWanted}

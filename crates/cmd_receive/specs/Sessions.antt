@@ -5,10 +5,11 @@ use Rattle.link_report.specs.declared.ending.Ending.{Ending}
 use Rattle.link_report.specs.declared.ending.Ending.TheVariants.{PacketLimit, WireFailed}
 use Rattle.vc_ports.specs.Changes.{WireChange, HasRisen}
 use Rattle.vc_slice.specs.Asked.{Told}
-use Rattle.cmd_receive.specs.Ends.{Counts, ended_sessions}
+use Rattle.link_hearing.specs.FromWire.{HeardToEnd, IsPastPackets}
+use Rattle.link_hearing.specs.Sessions.{ended_sessions}
+use Rattle.cmd_receive.specs.Ends.{Counts}
 use Rattle.cmd_receive.specs.WireInlets.{WasGiven}
 use Rattle.cmd_receive.specs.Playouts.{PlayoutState, BreaksOff, HasHeardSince, Hears}
-use Rattle.cmd_receive.specs.Receiving.{HeardToEnd, IsPastPackets}
 use Rattle.cmd_receive.specs.declared.count.SessionCount.{SessionCount}
 
 -- datagrams behind others are counted, and each of them came while fewer sessions had ended

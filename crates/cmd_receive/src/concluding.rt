@@ -1,9 +1,9 @@
 ghost use Rattle.std.specs.Prelude.{◌≡◌};
-ghost use Rattle.cmd_receive.specs.Concluding.{Concludes};
+ghost use Rattle.cmd_receive.specs.Concluding.{Concludes, recorded, with_records};
 ghost use Rattle.cmd_receive.specs.Playouts.{IsWell, playout_state};
 
 use crate::playout::Playout;
-use link_hearing::has_broken;
+use link_hearing::{RecordCounts, has_broken};
 use link_report::{Answer, Ending, Summary};
 use vc_ports::Sink;
 use vc_slice::Places;
@@ -29,5 +29,35 @@ pub(crate) fn conclude<O: Sink, P: Places>(
             Ok(tally) => Answer::Done(Summary::Judged { tally }),
             Err(fault) => Answer::Stopped(Ending::from(fault)),
         },
+    }
+}
+
+/// The same answer with the counts of a pcap file's records, where there are such and it counts anything.
+pub(crate) fn with_records(counts: Option<RecordCounts>, answer: Answer) -> Answer
+    ensures { result ≡ with_records counts answer }
+{
+    match counts {
+        Some(RecordCounts { records, other }) => recorded(records, other, answer),
+        None => answer,
+    }
+}
+
+fn recorded(records: u32, other: u32, answer: Answer) -> Answer
+    ensures { result ≡ recorded records other answer }
+{
+    match answer {
+        Answer::Done(summary) => Answer::WithRecords {
+            summary,
+            records,
+            other,
+            ending: None,
+        },
+        Answer::Drained(summary, ending) => Answer::WithRecords {
+            summary,
+            records,
+            other,
+            ending: Some(ending),
+        },
+        answer => answer,
     }
 }

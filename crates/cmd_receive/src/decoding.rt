@@ -1,29 +1,30 @@
 ghost use Rattle.std.specs.Prelude.{◌≡◌, ◌≤◌, ℕ, []};
 ghost use Rattle.link_receiver.specs.HeardLists.{OutputForm, HasHeard};
 ghost use Rattle.vc_ports.specs.Changes.{changed, input_of, output_of};
-ghost use Rattle.cmd_receive.specs.Decoding.{TakesCapture, Decodes, Unpacks};
-ghost use Rattle.cmd_receive.specs.Playouts.{IsNew, IsWell, PlaysCapture, playout_state};
+ghost use Rattle.cmd_receive.specs.Decoding.{TakesInput, Decodes, Unpacks};
+ghost use Rattle.cmd_receive.specs.Playouts.{IsNew, IsWell, PlaysInput, playout_state};
 
-use crate::concluding::conclude;
+use crate::concluding::{conclude, with_records};
 use crate::playout::Playout;
-use link_hearing::hear_capture;
+use link_hearing::{Heard, InputForm, hear_input};
 use link_receiver::Receiver;
 use link_report::{Answer, Ending};
 use std::alloc::Global;
 use vc_ports::{Sink, Source};
 use vc_slice::{Hands, Places};
 
-/// Decodes a capture: reads at most so many entries, takes each as a datagram, with so many
-/// pictures open at a time (2 to 8), and writes the raw frames that the datagrams make. A frame
+/// Decodes a capture, or a pcap file: reads at most so many entries, or records, takes the datagrams of them,
+/// with so many pictures open at a time (2 to 8), and writes the raw frames that the datagrams make. A frame
 /// goes out as soon as its pictures are let go. Each slice that a picture keeps is offered to so
 /// many workers; what they don't decode in time is decoded here. Where the input fails, or ends
-/// within an entry, or has one byte more than so many entries, the frames of what was heard are
-/// written all the same.
+/// within an entry or a record, or has one byte more than so many, or where a pcap file has no head or a
+/// record that is too long, the frames of what was heard are written all the same.
 pub fn decode<S: Source, O: Sink, P: Hands>(
     alloc: Global,
     window: u8,
     workers: u32,
     packets: u32,
+    form: InputForm,
     input: &mut S,
     output: &mut O,
     hands: &mut P,
@@ -31,15 +32,16 @@ pub fn decode<S: Source, O: Sink, P: Hands>(
     requires least { 2 ≤ window }
     requires most { window ≤ 8 }
     requires free { P.is_free hands.old }
-    ensures { Decodes window workers packets result
+    ensures { Decodes window workers packets form result
         (input_of S.left S.faults input.old input.new)
         (output_of O.held O.faults output.old output.new)
         (changed P.Places.told hands.old hands.new) }
 {
-    take_capture(
+    take_input(
         alloc,
         workers,
         packets,
+        form,
         Receiver::new(alloc, window),
         input,
         output,
@@ -47,7 +49,7 @@ pub fn decode<S: Source, O: Sink, P: Hands>(
     )
 }
 
-/// Unpacks a capture: reads it as `decode` does, and writes the elementary stream of its first
+/// Unpacks a capture, or a pcap file: reads it as `decode` does, and writes the elementary stream of its first
 /// session. That is the session's sequence header, the pictures of the frames that `decode` would
 /// write of it, each in its own bytes, and an end of sequence; without pictures it is nothing.
 pub fn unpack<S: Source, O: Sink, P: Hands>(
@@ -55,6 +57,7 @@ pub fn unpack<S: Source, O: Sink, P: Hands>(
     window: u8,
     workers: u32,
     packets: u32,
+    form: InputForm,
     input: &mut S,
     output: &mut O,
     hands: &mut P,
@@ -62,15 +65,16 @@ pub fn unpack<S: Source, O: Sink, P: Hands>(
     requires least { 2 ≤ window }
     requires most { window ≤ 8 }
     requires free { P.is_free hands.old }
-    ensures { Unpacks window workers packets result
+    ensures { Unpacks window workers packets form result
         (input_of S.left S.faults input.old input.new)
         (output_of O.held O.faults output.old output.new)
         (changed P.Places.told hands.old hands.new) }
 {
-    take_capture(
+    take_input(
         alloc,
         workers,
         packets,
+        form,
         Receiver::units(alloc, window),
         input,
         output,
@@ -78,11 +82,12 @@ pub fn unpack<S: Source, O: Sink, P: Hands>(
     )
 }
 
-// Starts the workers, and has a new receiver take the entries of a capture.
-fn take_capture<S: Source, O: Sink, P: Hands>(
+// Starts the workers, and has a new receiver take the datagrams of an input.
+fn take_input<S: Source, O: Sink, P: Hands>(
     alloc: Global,
     workers: u32,
     packets: u32,
+    form: InputForm,
     receiver: Receiver,
     input: &mut S,
     output: &mut O,
@@ -90,8 +95,8 @@ fn take_capture<S: Source, O: Sink, P: Hands>(
 ) -> Answer
     requires new { IsNew receiver }
     requires free { P.is_free hands.old }
-    ensures { (form : OutputForm) (window : ℕ) → HasHeard form receiver window []
-        → TakesCapture form window workers packets result
+    ensures { (writes : OutputForm) (window : ℕ) → HasHeard writes receiver window []
+        → TakesInput writes window workers packets form result
         (input_of S.left S.faults input.old input.new)
         (output_of O.held O.faults output.old output.new)
         (changed P.Places.told hands.old hands.new) }
@@ -101,24 +106,25 @@ fn take_capture<S: Source, O: Sink, P: Hands>(
     };
     let mut receiver = receiver;
     let mut playout = Playout::new(&mut receiver, output, hands);
-    let heard = play_capture(alloc, packets, input, &mut playout);
-    conclude(&mut playout, heard)
+    let heard = play_input(alloc, packets, form, input, &mut playout);
+    with_records(heard.records, conclude(&mut playout, heard.ended))
 }
 
-// Has a receiver that has heard nothing hear the datagrams of a capture's entries.
-fn play_capture<S: Source, O: Sink, P: Places>(
+// Has a receiver that has heard nothing hear the datagrams of an input.
+fn play_input<S: Source, O: Sink, P: Places>(
     alloc: Global,
     packets: u32,
+    form: InputForm,
     input: &mut S,
     playout: &mut Playout<O, P>,
-) -> Result<(), Ending>
+) -> Heard
     requires new { IsNew playout.old.receiver.now }
     ensures borrows_output { playout.new.output.ghost_name ≡ playout.old.output.ghost_name }
     ensures borrows_places { playout.new.places.ghost_name ≡ playout.old.places.ghost_name }
     ensures well { IsWell (playout_state O.held O.faults P.told P.bound playout.new) }
-    ensures heard { PlaysCapture packets (input_of S.left S.faults input.old input.new)
+    ensures heard { PlaysInput form packets (input_of S.left S.faults input.old input.new)
         (playout_state O.held O.faults P.told P.bound playout.old)
         (playout_state O.held O.faults P.told P.bound playout.new) result }
 {
-    hear_capture(alloc, packets, input, playout)
+    hear_input(alloc, form, packets, input, playout)
 }

@@ -24,9 +24,9 @@ use vc_types::SendSettings;
 /// frames one after another, sends each datagram that carries one, and that of the end of the sequence
 /// (RFC 8450), and receives once after each. What comes is heard with so many pictures open at a time
 /// (2 to 8), and its raw frames are written. Each slice that a picture keeps is offered to so many
-/// workers. Where sending stops, the frames of what was heard are written all the same, unless the
-/// output failed or memory ran out. Where the wire doesn't come to listen or to be aimed, nothing is
-/// read. Raw frames are this project's own.
+/// workers, and as many threads, at most 64, encode each frame. Where sending stops, the frames of what
+/// was heard are written all the same, unless the output failed or memory ran out. Where the wire doesn't
+/// come to listen or to be aimed, nothing is read. Raw frames are this project's own.
 pub fn loop_back<H: Threads + Copy + Send + Sync, S: Source, O: Sink, N: Wire, P: Hands>(
     rt: H,
     alloc: Global,
@@ -65,12 +65,13 @@ pub fn loop_back<H: Threads + Copy + Send + Sync, S: Source, O: Sink, N: Wire, P
     let mut receiver = Receiver::new(alloc, window);
     let playout = Playout::new(&mut receiver, output, hands);
     let mut outlet = LoopOutlet { inlet, playout };
-    loop_through(rt, alloc, s, frames, input, &mut outlet)
+    loop_through(rt, workers, alloc, s, frames, input, &mut outlet)
 }
 
 // Sends frames, hears what comes, and then ends the receiver's input, unless it broke off.
 fn loop_through<H: Threads + Copy + Send + Sync, S: Source, O: Sink, N: Wire, P: Places>(
     rt: H,
+    workers: u32,
     alloc: Global,
     s: &SendSettings,
     frames: u32,
@@ -89,7 +90,7 @@ fn loop_through<H: Threads + Copy + Send + Sync, S: Source, O: Sink, N: Wire, P:
         (loop_state N.told N.faults O.held O.faults P.told P.bound outlet.old)
         (loop_state N.told N.faults O.held O.faults P.told P.bound outlet.new) }
 {
-    match send_frames(rt, alloc, s, frames, input, outlet) {
+    match send_frames(rt, workers, alloc, s, frames, input, outlet) {
         Ok(totals) => {
             let tally = outlet.playout.drain()?;
             Ok(looped(&totals, tally))

@@ -1,53 +1,48 @@
--- What hearing a capture came to: its datagrams were heard, and then the end.
-use Rattle.std.proofs.Common.{◌≡◌, ℕ, ◌≤◌, ◌<◌, ◌^◌, true, false, List, [], ◌++◌, length, Option, Some, Ok, Err, sym, ap, ◌∙◌, subst, arith, inl, inr, append-nil}
+-- What hearing an input came to: its datagrams were heard, and then the end.
+use Rattle.std.proofs.Common.{◌≡◌, ℕ, ◌≤◌, ◌<◌, ◌^◌, true, false, List, [], ◌++◌, length, Option, None, Some, Ok, Err, sym, ap, ◌∙◌, arith, inl, inr, append-nil}
 use Rattle.std.specs.Prelude.{Result, ◌⊎◌}
-use Rattle.link_hearing.proofs.CaptureSplits.{failed_so, read_all, read_until, split, splits}
-use Rattle.link_hearing.proofs.HeardEntries.{capture_breaks, capture_hears}
-use Rattle.link_hearing.specs.Capture.{CaptureSplit, ReadingEnded}
-use Rattle.link_hearing.specs.Hearing.{CanGoOn, CaptureHeard, HearsCapture, fault_ending, has_broken}
+use Rattle.link_hearing.proofs.HeardInputs.{failed_so, read_all, read_until, so_breaks, so_hears}
+use Rattle.link_hearing.specs.Hearing.{CanGoOn, fault_ending, has_broken}
+use Rattle.link_hearing.specs.Inputs.{HeardSo, HearsInput, InputEnded, datagrams_in}
+use Rattle.link_hearing.specs.declared.form.InputForm.{InputForm}
+use Rattle.link_hearing.specs.declared.heard.Heard.{Heard}
 use Rattle.link_hearing.specs.declared.listener.ListenerFault.{ListenerFault}
 use Rattle.link_hearing.specs.declared.listener.ListenerFault.TheVariants as faults
-use Rattle.link_outside.specs.Outlets.{capture_of}
 use Rattle.link_report.specs.declared.ending.Ending.{Ending}
-use Rattle.link_report.specs.declared.ending.Ending.TheVariants.{CaptureCut, InputFailed, NoMemory, OutputFailed, PacketLimit}
+use Rattle.link_report.specs.declared.ending.Ending.TheVariants.{InputFailed, NoMemory, OutputFailed}
 use Rattle.vc_ports.proofs.Growing.{Grew-none}
 use Rattle.vc_ports.specs.Changes.{InputChange, OutputChange, HasRisen, Wrote, output_of}
-use Rattle.vc_ports.specs.Reading.{IsAtEnd}
-use Rattle.cmd_rtcp.specs.Answering.{AnswersCapture, CaptureAnswered}
+use Rattle.cmd_rtcp.specs.Answering.{AnswersInput, InputAnswered}
 use Rattle.cmd_rtcp.specs.Due.{Due}
 use Rattle.cmd_rtcp.specs.WritingLaws.{breaks_then}
-use Rattle.cmd_rtcp.specs.Writings.{WritingState, BreaksOff, BrokeBy, CanHear, Concludes, HasEndedSince, HasHeardSince, Hears, PutsCapture}
+use Rattle.cmd_rtcp.specs.Writings.{WritingState, BreaksOff, BrokeBy, CanHear, Concludes, HasEndedSince, HasHeardSince, Hears, PutsInput}
 
 -- ---- never enough
 
-module _ (packets more : ℕ) (input : InputChange) (heard : List (List ℕ) → Type 0)
+module _ (form : InputForm) (packets : ℕ) (input : InputChange) (heard : List (List ℕ) → Type 0)
     (broke : List (List ℕ) → ListenerFault → Type 0) (enough : Type 0)
     (never : (ds : List (List ℕ)) → length ds ≤ packets → heard ds → enough → ⊥) where
-  without_enough : (ds : List (List ℕ)) (part : List ℕ) (result : Result (Unit {0}) Ending) → length ds ≤ packets
-      → CaptureHeard packets more input heard broke enough ds part result
-      → CaptureHeard packets more input heard broke ⊥ ds part result
-  without_enough ds part (Ok done) few d = (d.0, d.1, by_end d.2)
+  without_enough : (ds : List (List ℕ)) (ended : Option Ending → Type 0) (result : Result (Unit {0}) Ending)
+      → length ds ≤ packets → HeardSo ds ended input heard broke enough result
+      → HeardSo ds ended input heard broke ⊥ result
+  without_enough ds ended (Ok done) few so = (so.0, by_end so.1)
     where
-      by_end : IsAtEnd input.left.after ⊎ enough → IsAtEnd input.left.after ⊎ ⊥
+      by_end : ended None ⊎ enough → ended None ⊎ ⊥
       by_end (inl at) = inl at
-      by_end (inr is) = inr (never ds few d.0 is)
-  without_enough ds part (Err (CaptureCut place)) few d = d
-  without_enough ds part (Err InputFailed) few d = d
-  without_enough ds part (Err (PacketLimit limit)) few d = d
-  without_enough ds part (Err NoMemory) few d = d
-  without_enough ds part (Err OutputFailed) few d = d
-  without_enough ds part (Err end) few d = absurd d
+      by_end (inr is) = inr (never ds few so.0 is)
+  without_enough ds ended (Err NoMemory) few so = so
+  without_enough ds ended (Err OutputFailed) few so = so
+  without_enough ds ended (Err end) few so = so
 
-  pub heard_without : (result : Result (Unit {0}) Ending)
-      → HearsCapture packets more input heard broke enough result
-      → HearsCapture packets more input heard broke ⊥ result
-  heard_without result h = record {
-    datagrams = h.datagrams;
-    part = h.part;
-    gave = h.gave;
+  pub heard_without : (told : Heard) → HearsInput form packets input heard broke enough told
+      → HearsInput form packets input heard broke ⊥ told
+  heard_without told h = record {
+    given = h.given;
+    took = h.took;
     few = h.few;
-    not_whole = h.not_whole;
-    did = without_enough h.datagrams h.part result h.few h.did;
+    counted = h.counted;
+    did = without_enough (datagrams_in form packets h.given)
+        (λ end. InputEnded form packets end input h.given) told.ended h.few h.did;
   }
 
 module _ {S : Type 0} (knows : S → S → List (List ℕ) → Type 0) (due : S → Due) (x : WritingState S)
@@ -57,23 +52,24 @@ module _ {S : Type 0} (knows : S → S → List (List ℕ) → Type 0) (due : S 
 
   -- ---- hearing
 
-  module _ (packets : ℕ) (small : packets < 2 ^ 32) (input : InputChange) (y : WritingState S)
-      (result : Result (Unit {0}) Ending) where
+  module _ (form : InputForm) (packets : ℕ) (small : packets < 2 ^ 32) (input : InputChange)
+      (y : WritingState S) (told : Heard) where
     counted : (ds : List (List ℕ)) → Hears knows due x y ds → y.datagrams ≡ length ds
     counted ds p = (p.since x.scribe x.held [] at_first).count
 
-    pub puts : HearsCapture packets 1 input (Hears knows due x y) (BreaksOff knows due x y) (2 ^ 32 ≤ y.datagrams) result
-        → PutsCapture knows due packets input x y result
-    puts h = heard_without packets 1 input (Hears knows due x y) (BreaksOff knows due x y) (2 ^ 32 ≤ y.datagrams)
-        (λ ds few p enough. omega (arith, few, counted ds p, enough, small)) result h
+    pub puts : HearsInput form packets input (Hears knows due x y) (BreaksOff knows due x y) (2 ^ 32 ≤ y.datagrams) told
+        → PutsInput knows due form packets input x y told
+    puts h = heard_without form packets input (Hears knows due x y) (BreaksOff knows due x y) (2 ^ 32 ≤ y.datagrams)
+        (λ ds few p enough. omega (arith, few, counted ds p, enough, small)) told h
 
-    pub ready : PutsCapture knows due packets input x y result → CanGoOn result → CanHear knows y
+    pub ready : PutsInput knows due form packets input x y told → CanGoOn told.ended → CanHear knows y
     ready h can =
-        let p = capture_hears packets 1 input (Hears knows due x y) (BreaksOff knows due x y) ⊥ h.datagrams h.part result can h.did in
+        let p = so_hears (Hears knows due x y) (BreaksOff knows due x y) ⊥ input (datagrams_in form packets h.given)
+        (λ end. InputEnded form packets end input h.given) told.ended can h.did in
         let is = p.since x.scribe x.held [] at_first in
         record {
           first = x.scribe;
-          heard = h.datagrams;
+          heard = datagrams_in form packets h.given;
           knows_so = is.knows_so;
           count = is.count;
           few = omega (arith, is.count, h.few, small);
@@ -82,10 +78,16 @@ module _ {S : Type 0} (knows : S → S → List (List ℕ) → Type 0) (due : S 
   -- ---- the end
 
   module _ (ended : S → S → List (List ℕ) → Type 0) (mid y : WritingState S)
-      (packets : ℕ) (input : InputChange) (heard : Result (Unit {0}) Ending)
-      (h : PutsCapture knows due packets input x mid heard) where
+      (form : InputForm) (packets : ℕ) (input : InputChange) (told : Heard)
+      (h : PutsInput knows due form packets input x mid told) where
+    abbrev heard : Result (Unit {0}) Ending
+    heard = told.ended
+
     abbrev ds : List (List ℕ)
-    ds = h.datagrams
+    ds = datagrams_in form packets h.given
+
+    abbrev Reading : Option Ending → Type 0
+    Reading end = InputEnded form packets end input h.given
 
     -- by the result
     abbrev CameTo : Result ℕ Ending → Type 0
@@ -97,14 +99,14 @@ module _ {S : Type 0} (knows : S → S → List (List ℕ) → Type 0) (due : S 
 
     hears : CanGoOn heard → Hears knows due x mid ds
     hears can =
-        capture_hears packets 1 input (Hears knows due x mid) (BreaksOff knows due x mid) ⊥ h.datagrams h.part heard can h.did
+        so_hears (Hears knows due x mid) (BreaksOff knows due x mid) ⊥ input ds Reading heard can h.did
 
     since : CanGoOn heard → HasHeardSince knows due x.scribe x.held mid ds
     since can = (hears can).since x.scribe x.held [] at_first
 
     breaks : (end : Ending) → has_broken end ≡ true → heard ≡ Err end → BrokeBy knows due x mid ds end
     breaks end broken is =
-        capture_breaks packets 1 input (Hears knows due x mid) (BreaksOff knows due x mid) ⊥ h.datagrams h.part end broken (rw is at h.did)
+        so_breaks (Hears knows due x mid) (BreaksOff knows due x mid) ⊥ input ds Reading end broken (rw is at h.did)
 
     came_to : (result : Result ℕ Ending) → Concludes knows ended due mid y heard result → CameTo result
     came_to (Ok count) c =
@@ -124,25 +126,23 @@ module _ {S : Type 0} (knows : S → S → List (List ℕ) → Type 0) (due : S 
     abbrev Is : ℕ → List (List ℕ) → Type 0
     Is count heard = (count ≡ length heard) × ended x.scribe y.scribe heard
 
-    abbrev Answered : Result ℕ Ending → CaptureSplit → Type 0
-    Answered result s = CaptureAnswered (due x.scribe).in_all Is packets result input output s
+    abbrev Answered : Result ℕ Ending → Type 0
+    Answered result = InputAnswered (due x.scribe).in_all Is form packets result input output h.given
 
-    whole : (end : Ending) → has_broken end ≡ false → (s : CaptureSplit)
-        → ReadingEnded packets (Some end) input s × Wrote output ((due x.scribe).in_all s.datagrams)
-        → Answered (Err end) s
-    whole NoMemory not s p = absurd cc
-    whole OutputFailed not s p = absurd cc
-    whole end not s p = p
+    whole : (end : Ending) → has_broken end ≡ false
+        → Reading (Some end) × Wrote output ((due x.scribe).in_all ds) → Answered (Err end)
+    whole NoMemory not p = absurd cc
+    whole OutputFailed not p = absurd cc
+    whole end not p = p
 
     part : (end : Ending) (fault : ListenerFault) → end ≡ fault_ending fault → BreaksOff knows due x y ds fault
-        → Answered (Err end) (split packets input h)
+        → Answered (Err end)
     part end faults.NoMemory is b = rw is (b.since x.scribe x.held [] at_first)
     part end faults.Output is b = rw is (b.0.since x.scribe x.held [] at_first)
 
-    answered : (result : Result ℕ Ending) → CameTo result → Answered result (split packets input h)
+    answered : (result : Result ℕ Ending) → CameTo result → Answered result
     answered (Ok count) c = (read_all packets input h c.0, c.1.wrote, (c.2, c.1.ended_so))
-    answered (Err end) (inl c) =
-        whole end c.1 (split packets input h) (read_until packets input h end c.1 c.0, c.2.wrote)
+    answered (Err end) (inl c) = whole end c.1 (read_until packets input h end c.1 c.0, c.2.wrote)
     answered (Err end) (inr c) = part end c.0 c.1 c.2
 
     no_input_fault : (fault : ListenerFault) → InputFailed ≡ fault_ending fault → ⊥
@@ -170,27 +170,27 @@ module _ {S : Type 0} (knows : S → S → List (List ℕ) → Type 0) (due : S 
         let failed : end ≡ OutputFailed = cc in output_rose end c.0 failed c.1 c.2
 
     took : (result : Result ℕ Ending) → CameTo result
-        → AnswersCapture (due x.scribe).in_all Is packets result input output
+        → AnswersInput (due x.scribe).in_all Is form packets result input output
     took result c = record {
-      given = capture_of h.datagrams ++ h.part;
-      took = h.gave.took;
-      ended = subst (Answered result) (splits packets input h) (answered result c);
+      given = h.given;
+      took = h.took;
+      ended = answered result c;
       input_failed = input_did result c;
       output_failed = output_did result c;
     }
 
-    pub took_capture : (result : Result ℕ Ending) → Concludes knows ended due mid y heard result
-        → AnswersCapture (due x.scribe).in_all Is packets result input output
-    took_capture result c = took result (came_to result c)
+    pub took_input : (result : Result ℕ Ending) → Concludes knows ended due mid y heard result
+        → AnswersInput (due x.scribe).in_all Is form packets result input output
+    took_input result c = took result (came_to result c)
 
 -- what was lent comes back as it was left
 module _ (S O : Type 0) (held : O → Option (List ℕ)) (faults : O → ℕ) (ended : S → S → List (List ℕ) → Type 0) (due : S → Due)
     (s_old s_first s_left s_end : S) (o_old o_first o_left o_end : O) where
-  pub lent_back : (packets : ℕ) (input : InputChange) (result : Result ℕ Ending)
-      → AnswersCapture (due s_first).in_all (λ count heard. (count ≡ length heard) × ended s_first s_left heard)
-      packets result input (output_of held faults o_first o_left)
+  pub lent_back : (form : InputForm) (packets : ℕ) (input : InputChange) (result : Result ℕ Ending)
+      → AnswersInput (due s_first).in_all (λ count heard. (count ≡ length heard) × ended s_first s_left heard)
+      form packets result input (output_of held faults o_first o_left)
       → s_first ≡ s_old → o_first ≡ o_old → s_end ≡ s_left → o_end ≡ o_left
-      → AnswersCapture (due s_old).in_all (λ count heard. (count ≡ length heard) × ended s_old s_end heard)
-      packets result input (output_of held faults o_old o_end)
-  lent_back packets input result took s_first_is o_first_is s_is o_is =
+      → AnswersInput (due s_old).in_all (λ count heard. (count ≡ length heard) × ended s_old s_end heard)
+      form packets result input (output_of held faults o_old o_end)
+  lent_back form packets input result took s_first_is o_first_is s_is o_is =
       rw (← s_first_is, ← o_first_is, s_is, o_is) took

@@ -1,4 +1,4 @@
--- Reports as lines of text (this project's own), and what showing those of a capture did, by how it ended.
+-- Reports as lines of text (this project's own), and what showing those of an input did, by how it ended.
 use Rattle.std.specs.Prelude.{◌≡◌, ℕ, List, ◌++◌, length, codes, Option, Some, None, Result, Ok, Err}
 use Rattle.std.specs.List.{flat_map, range_with_len}
 use Rattle.std.specs.Fmt.{decimal, signed_decimal}
@@ -12,7 +12,8 @@ use Rattle.rtcp_reports.specs.declared.block.CompoundView.{CompoundView}
 use Rattle.rtcp_reports.specs.declared.block.SenderInfo.{SenderInfo}
 use Rattle.rtcp_reports.specs.declared.refusal.RtcpRefusal.{RtcpRefusal}
 use Rattle.vc_ports.specs.Changes.{InputChange, OutputChange}
-use Rattle.cmd_rtcp.specs.Answering.{AnswersCapture}
+use Rattle.link_hearing.specs.declared.form.InputForm.{InputForm}
+use Rattle.cmd_rtcp.specs.Answering.{AnswersInput}
 use Rattle.cmd_rtcp.specs.Due.{Due}
 
 -- ---- lines
@@ -57,10 +58,10 @@ shown_text datagrams = flat_map shown_lines datagrams
 abbrev pub due_text : Due
 due_text = record { so_far = shown_text; in_all = shown_text }
 
--- ---- a capture
+-- ---- an input
 
 -- the text of its datagrams was written
-abbrev pub Shows : ℕ → Result Summary Ending → InputChange → OutputChange → Type 0
-Shows packets result input output =
-    AnswersCapture shown_text (λ summary datagrams. summary ≡ Shown (length datagrams)) packets result
-    input output
+abbrev pub Shows : ℕ → InputForm → Result Summary Ending → InputChange → OutputChange → Type 0
+Shows packets form result input output =
+    AnswersInput shown_text (λ summary datagrams. summary ≡ Shown (length datagrams)) form packets
+    result input output

@@ -2,7 +2,10 @@
 -- datagrams it has heard since it was as at first; a function, what is due of them.
 use Rattle.std.specs.Prelude.{◌≡◌, ◌≤◌, ◌⊎◌, ◌^◌, ℕ, List, [], ◌++◌, length, true, false}
 use Rattle.std.specs.Prelude.{Option, Result, Ok, Err}
-use Rattle.link_hearing.specs.Hearing.{CanGoOn, HearsCapture, fault_ending, has_broken}
+use Rattle.link_hearing.specs.Hearing.{CanGoOn, fault_ending, has_broken}
+use Rattle.link_hearing.specs.Inputs.{HearsInput}
+use Rattle.link_hearing.specs.declared.form.InputForm.{InputForm}
+use Rattle.link_hearing.specs.declared.heard.Heard.{Heard}
 use Rattle.link_hearing.specs.declared.listener.ListenerFault.{ListenerFault}
 use Rattle.link_hearing.specs.declared.listener.ListenerFault.TheVariants.{NoMemory, Output}
 use Rattle.link_report.specs.declared.ending.Ending.{Ending}
@@ -100,13 +103,13 @@ abbrev pub TakesEnd : {S : Type 0} → (knows ended : S → S → List (List ℕ
 TakesEnd knows ended due x y (Ok done) = Drains knows ended due x y
 TakesEnd knows ended due x y (Err fault) = BreaksOff knows due x y [] fault
 
--- ---- a capture
+-- ---- an input
 
--- the datagrams of its entries were heard, at most so many, and one byte more was read at the limit
-abbrev pub PutsCapture : {S : Type 0} → (knows : S → S → List (List ℕ) → Type 0) → (due : S → Due)
-    → ℕ → InputChange → (x y : WritingState S) → Result (Unit {0}) Ending → Type 0
-PutsCapture knows due packets input x y result =
-    HearsCapture packets 1 input (Hears knows due x y) (BreaksOff knows due x y) ⊥ result
+-- its datagrams were heard
+abbrev pub PutsInput : {S : Type 0} → (knows : S → S → List (List ℕ) → Type 0) → (due : S → Due)
+    → InputForm → ℕ → InputChange → (x y : WritingState S) → Heard → Type 0
+PutsInput knows due form packets input x y told =
+    HearsInput form packets input (Hears knows due x y) (BreaksOff knows due x y) ⊥ told
 
 -- it broke off so, at the last of these
 abbrev pub BrokeBy : {S : Type 0} → (knows : S → S → List (List ℕ) → Type 0) → (due : S → Due)

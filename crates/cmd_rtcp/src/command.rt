@@ -3,52 +3,56 @@ ghost use Rattle.cmd_rtcp.specs.Reporting.{ReportsOn};
 ghost use Rattle.cmd_rtcp.specs.Showing.{Shows};
 ghost use Rattle.cmd_rtcp.specs.Sources.{CanReport, reporting_of};
 
-use crate::capture::take_capture;
+use crate::input::take_input;
 use crate::reporter::Reporter;
 use crate::settings::ReportSettings;
 use crate::shower::Shower;
+use link_hearing::InputForm;
 use link_report::{Ending, Summary};
 use std::alloc::Global;
 use vc_ports::{Sink, Source};
 
-/// Reports on the source of a capture's datagrams: reads at most so many entries, and writes the entries of
-/// compound packets of RTCP (RFC 3550, 6.1), each a receiver report (6.4.2) or, where the source itself
-/// reports, a sender report (6.4.1), and a source description (6.5). There is one behind each so many packets
-/// of the source, and one at the end, where packets have come since. Where the input fails, or ends within an
-/// entry, or has one byte more than so many entries, the last report is written all the same.
+/// Reports on the source of the datagrams of a capture or a pcap file: reads at most so many entries, or
+/// records, and writes the entries of compound packets of RTCP (RFC 3550, 6.1), each a receiver report
+/// (6.4.2) or, where the source itself reports, a sender report (6.4.1), and a source description (6.5).
+/// There is one behind each so many packets of the source, and one at the end, where packets have come
+/// since. Where the input fails, or isn't read to its end, the last report is written all the same.
 pub fn rtcp<S: Source, O: Sink>(
     alloc: Global,
     settings: &ReportSettings,
     packets: u32,
+    form: InputForm,
     input: &mut S,
     output: &mut O,
 ) -> Result<Summary, Ending>
     requires { CanReport settings.now }
-    ensures { ReportsOn (reporting_of settings.now) packets result
+    ensures { ReportsOn (reporting_of settings.now) packets form result
         (input_of S.left S.faults input.old input.new)
         (output_of O.held O.faults output.old output.new) }
 {
     let mut reporter = Reporter::new(alloc, *settings);
-    match take_capture(alloc, packets, input, output, &mut reporter) {
+    match take_input(alloc, form, packets, input, output, &mut reporter) {
         Ok(datagrams) => Ok(reporter.summary(datagrams)),
         Err(ending) => Err(ending),
     }
 }
 
-/// Shows the compound packets of RTCP in a capture as text: reads at most so many entries, and writes for
-/// each a line of its report and one for each block of it, or the number of its refusal.
+/// Shows the compound packets of RTCP in a capture or a pcap file as text: reads at most so many entries, or
+/// records, and writes for each datagram a line of its report and one for each block of it, or the number of
+/// its refusal.
 pub fn rtcp_show<S: Source, O: Sink>(
     alloc: Global,
     packets: u32,
+    form: InputForm,
     input: &mut S,
     output: &mut O,
 ) -> Result<Summary, Ending>
-    ensures { Shows packets result
+    ensures { Shows packets form result
         (input_of S.left S.faults input.old input.new)
         (output_of O.held O.faults output.old output.new) }
 {
     let mut shower = Shower { alloc };
-    match take_capture(alloc, packets, input, output, &mut shower) {
+    match take_input(alloc, form, packets, input, output, &mut shower) {
         Ok(datagrams) => Ok(Summary::Shown { datagrams }),
         Err(ending) => Err(ending),
     }

@@ -1,9 +1,9 @@
-//! `rtcp` and `rtcp-show`: what is to be reported on the source of a capture's datagrams (RFC 3550, 6.4), and
+//! `rtcp` and `rtcp-show`: what is to be reported on the source of an input's datagrams (RFC 3550, 6.4), and
 //! reports shown as text.
 #![tactic(auto)]
 
-mod capture;
 mod command;
+mod input;
 mod piece;
 mod reporter;
 mod scribe;

@@ -1,6 +1,6 @@
 -- What hearing a capture's entries came to, by what its inlet and a listener did.
-use Rattle.std.proofs.Common.{◌≡◌, true, ◌≤◌, ◌+◌, ℕ, zero, suc, List, [], ◌∷◌, ◌++◌, length}
-use Rattle.std.proofs.Common.{Option, Some, None, Ok, Err, refl, ap, arith, inl, inr}
+use Rattle.std.proofs.Common.{◌≡◌, ◌≤◌, ◌+◌, ℕ, zero, suc, List, [], ◌∷◌, ◌++◌, length}
+use Rattle.std.proofs.Common.{Option, Some, None, Ok, Err, refl, sym, ap, subst, arith, inl, inr}
 use Rattle.std.proofs.Common.{append-nil, append_assoc, length-append}
 use Rattle.std.specs.Prelude.{Result}
 use Rattle.std.proofs.lemmas.List.Concat.{flat_map-cons}
@@ -17,8 +17,7 @@ use Rattle.vc_ports.specs.Faults.{Rose}
 use Rattle.vc_ports.specs.Reading.{Gave, GaveAll}
 use Rattle.link_hearing.proofs.Within.{within_entry}
 use Rattle.link_hearing.specs.Capture.{capture_split}
-use Rattle.link_hearing.specs.Hearing.{CanGoOn, CaptureHeard, HearsCapture, HearsUntil}
-use Rattle.link_hearing.specs.Hearing.{fault_ending, has_broken}
+use Rattle.link_hearing.specs.Hearing.{CaptureHeard, HearsCapture, HearsUntil, LooksBehind, LooksOn, fault_ending}
 use Rattle.link_hearing.specs.InletLaws.{left_between}
 use Rattle.link_hearing.specs.Inlets.{FitEntries, GaveEntries}
 use Rattle.link_hearing.specs.Inlets.{GaveWhole, StoppedReading}
@@ -178,71 +177,60 @@ module _ (packets limit : ℕ) (a b c : Option (List ℕ)) (i j k : ℕ) (heard 
     did = did;
   }
 
-  pub one_more : (more : List ℕ) → length more ≡ 1 → Gave b c more → OneMore (Err (PacketLimit limit))
+  one_more : (more : List ℕ) → length more ≡ 1 → Gave b c more → OneMore (Err (PacketLimit limit))
   one_more more one gave = behind more (Err (PacketLimit limit)) gave (omega (arith, one))
       (st.did.0, st.did.1, st.did.2, one)
 
-  pub none_more : GaveAll b c [] → OneMore (Ok tt)
+  none_more : GaveAll b c [] → OneMore (Ok tt)
   none_more gave = behind [] (Ok tt) gave.gave (omega arith) (st.did.0, refl, inl gave.at_end)
 
-  pub not_read : Gave b c [] → Rose j k → OneMore (Err InputFailed)
+  not_read : Gave b c [] → Rose j k → OneMore (Err InputFailed)
   not_read gave rose = behind [] (Err InputFailed) gave (omega arith)
       (st.did.0, inr refl, omega (arith, st.gave.later, rose))
 
--- ---- the listener
+  looked_on : (result : Result (Unit {0}) Ending) → LooksOn limit (left_between b c j k) result
+      → OneMore result
+  looked_on (Ok done) l = none_more (record { gave = l.0; at_end = l.1 })
+  looked_on (Err (PacketLimit most)) l =
+      subst (λ (n : ℕ). OneMore (Err (PacketLimit n))) (sym l.0) (one_more l.1 l.2 l.3)
+  looked_on (Err InputFailed) l = not_read l.0 l.1
+  looked_on (Err end) l = absurd l
 
-module _ (packets more : ℕ) (input : InputChange) (heard : List (List ℕ) → Type 0)
-    (broke : List (List ℕ) → ListenerFault → Type 0) (enough : Type 0) where
-  abbrev DidSo : List (List ℕ) → List ℕ → Result (Unit {0}) Ending → Type 0
-  DidSo ds part result = CaptureHeard packets more input heard broke enough ds part result
+module _ (packets : ℕ) (a b c : Option (List ℕ)) (i j k : ℕ) (heard : List (List ℕ) → Type 0)
+    (broke : List (List ℕ) → ListenerFault → Type 0) (enough : Type 0) (later : j ≤ k) where
+  abbrev Entries : (more : ℕ) → (after : Option (List ℕ)) → (last : ℕ) → Result (Unit {0}) Ending → Type 0
+  Entries more after last result =
+      HearsCapture packets more (left_between a after i last) heard broke enough result
 
-  pub capture_hears : (ds : List (List ℕ)) (part : List ℕ) (result : Result (Unit {0}) Ending)
-      → CanGoOn result → DidSo ds part result → heard ds
-  capture_hears ds part (Ok done) can did = did.0
-  capture_hears ds part (Err (CaptureCut at)) can did = did.0
-  capture_hears ds part (Err InputFailed) can did = did.0
-  capture_hears ds part (Err (PacketLimit limit)) can did = did.0
-  capture_hears ds part (Err NoMemory) can did = absurd cc
-  capture_hears ds part (Err OutputFailed) can did = absurd cc
-  capture_hears ds part (Err end) can did = absurd did
+  -- where it wasn't tried
+  so_far : (end : Ending) (result : Result (Unit {0}) Ending)
+      → (result ≡ Err end) × (c ≡ b) × (k ≡ j) → Entries 1 b j (Err end) → Entries 1 c k result
+  so_far end result l st = rw (l.0, l.1, l.2) st
 
-  pub capture_breaks : (ds : List (List ℕ)) (part : List ℕ) (end : Ending) → has_broken end ≡ true
-      → DidSo ds part (Err end) → (fault : ListenerFault) × (end ≡ fault_ending fault) × broke ds fault
-  capture_breaks ds part NoMemory is did = (faults.NoMemory, refl, did)
-  capture_breaks ds part OutputFailed is did = (faults.Output, refl, did)
-  capture_breaks ds part end is did = absurd cc
+  ended_before : (ds : List (List ℕ)) (part : List ℕ) (end : Ending)
+      → ((limit : ℕ) → end ≡ PacketLimit limit → ⊥)
+      → CaptureHeard packets 0 (left_between a b i j) heard broke enough ds part (Err end)
+      → CaptureHeard packets 1 (left_between a b i j) heard broke enough ds part (Err end)
+  ended_before ds part (PacketLimit limit) not did = absurd (not limit refl)
+  ended_before ds part (CaptureCut place) not did = did
+  ended_before ds part InputFailed not did = did
+  ended_before ds part NoMemory not did = did
+  ended_before ds part OutputFailed not did = did
+  ended_before ds part end not did = did
 
--- ---- what is lent
+  one_as_none : (end : Ending) → ((limit : ℕ) → end ≡ PacketLimit limit → ⊥) → Entries 0 b j (Err end)
+      → Entries 1 b j (Err end)
+  one_as_none end not st = record {
+    datagrams = st.datagrams;
+    part = st.part;
+    gave = st.gave;
+    few = st.few;
+    not_whole = st.not_whole;
+    did = ended_before st.datagrams st.part end not st.did;
+  }
 
--- what is lent to a listener is the same, whatever it heard
-module _ (B : Type 0) (packets more : ℕ) (input : InputChange) (heard : List (List ℕ) → Type 0)
-    (broke : List (List ℕ) → ListenerFault → Type 0) (enough : Type 0) where
-  abbrev Lent : List (List ℕ) → List ℕ → Result (Unit {0}) Ending → Type 0
-  Lent ds part result =
-      CaptureHeard packets more input (λ l. B × heard l) (λ l fault. B × broke l fault) enough ds part result
-
-  did_apart : (ds : List (List ℕ)) (part : List ℕ) (result : Result (Unit {0}) Ending)
-      → Lent ds part result → B × CaptureHeard packets more input heard broke enough ds part result
-  did_apart ds part (Ok done) d = (d.0.0, (d.0.1, d.1, d.2))
-  did_apart ds part (Err (CaptureCut at)) d = (d.0.0, (d.0.1, d.1, d.2, d.3, d.4))
-  did_apart ds part (Err InputFailed) d = (d.0.0, (d.0.1, d.1, d.2))
-  did_apart ds part (Err (PacketLimit limit)) d = (d.0.0, (d.0.1, d.1, d.2, d.3))
-  did_apart ds part (Err NoMemory) d = d
-  did_apart ds part (Err OutputFailed) d = d
-  did_apart ds part (Err end) d = absurd d
-
-  pub heard_apart : (result : Result (Unit {0}) Ending)
-      → HearsCapture packets more input (λ l. B × heard l) (λ l fault. B × broke l fault) enough result
-      → B × HearsCapture packets more input heard broke enough result
-  heard_apart result h =
-      let apart = did_apart h.datagrams h.part result h.did in (
-        apart.0,
-        record {
-          datagrams = h.datagrams;
-          part = h.part;
-          gave = h.gave;
-          few = h.few;
-          not_whole = h.not_whole;
-          did = apart.1;
-        },
-      )
+  pub looked_behind : (end : Ending) (result : Result (Unit {0}) Ending) → Entries 0 b j (Err end)
+      → LooksBehind end (left_between b c j k) result → Entries 1 c k result
+  looked_behind (PacketLimit limit) result st l =
+      looked_on packets limit a b c i j k heard broke enough later st result l
+  looked_behind end result st l = so_far end result l (one_as_none end (λ limit is. cc) st)

@@ -1,6 +1,13 @@
 pub mod Within
 pub mod Arriving
+pub mod PcapArriving
 pub mod HeardLoop
 pub mod HeardEntries
-pub mod CaptureSplits
+pub mod ReadFiles
+pub mod FileEndings
+pub mod HeardFiles
+pub mod HeardInputs
 pub mod WholeCaptures
+pub mod SessionEnds
+pub mod WholeFiles
+pub mod WholeInputs

@@ -7,7 +7,7 @@ use Rattle.link_outside.specs.Outlets.{capture_of}
 use Rattle.link_report.specs.declared.ending.Ending.{Ending}
 use Rattle.link_report.specs.declared.ending.Ending.TheVariants.{CaptureCut, InputFailed, NoMemory}
 use Rattle.link_report.specs.declared.ending.Ending.TheVariants.{OutputFailed, PacketLimit}
-use Rattle.vc_ports.specs.Changes.{InputChange, HasRisen}
+use Rattle.vc_ports.specs.Changes.{InputChange, HasRisen, Stays, Took}
 use Rattle.vc_ports.specs.Reading.{IsAtEnd}
 use Rattle.link_hearing.specs.Inlets.{GaveEntries}
 use Rattle.link_hearing.specs.declared.listener.ListenerFault.{ListenerFault}
@@ -102,6 +102,19 @@ CaptureHeard packets more input heard broke enough datagrams part (Err NoMemory)
 CaptureHeard packets more input heard broke enough datagrams part (Err OutputFailed) =
     broke datagrams faults.Output
 CaptureHeard packets more input heard broke enough datagrams part (Err end) = ⊥
+
+-- behind so many one byte more was read, or there was none
+abbrev pub LooksOn : (packets : ℕ) → InputChange → Result (Unit {0}) Ending → Type 0
+LooksOn packets input (Ok done) = Took input [] × IsAtEnd input.left.after
+LooksOn packets input (Err (PacketLimit limit)) =
+    (limit ≡ packets) × (bytes : List ℕ) × (length bytes ≡ 1) × Took input bytes
+LooksOn packets input (Err InputFailed) = Took input [] × HasRisen input.faults
+LooksOn packets input (Err end) = ⊥
+
+-- that was tried, where as many came as were asked for
+abbrev pub LooksBehind : Ending → InputChange → Result (Unit {0}) Ending → Type 0
+LooksBehind (PacketLimit limit) input result = LooksOn limit input result
+LooksBehind end input result = (result ≡ Err end) × Stays input.left × Stays input.faults
 
 -- the datagrams of these entries were heard, and a part of one was read behind them
 pub record HearsCapture

@@ -1,4 +1,10 @@
 pub mod Inlets
 pub mod InletLaws
+pub mod PcapInlets
 pub mod Hearing
 pub mod Capture
+pub mod Sessions
+pub mod FromWire
+pub mod Files
+pub mod Inputs
+pub mod FileHearing

@@ -1,5 +1,5 @@
-ghost use Rattle.std.specs.Prelude.{◌≡◌, None};
-ghost use Rattle.link_hearing.specs.Hearing.{HearsCapture, HearsUntil};
+ghost use Rattle.std.specs.Prelude.{◌≡◌, ◌≤◌, None};
+ghost use Rattle.link_hearing.specs.Hearing.{HearsCapture, HearsUntil, LooksBehind, LooksOn};
 ghost use Rattle.vc_ports.specs.Changes.{input_of};
 
 use crate::capture_inlet::CaptureInlet;
@@ -41,7 +41,7 @@ pub fn hear_all<I: Inlet, L: Listener>(
 
 /// Has a listener hear the datagrams of a capture's entries, at most so many, until it has heard
 /// enough, and reads one byte more where there were as many.
-pub fn hear_capture<S: Source, L: Listener>(
+pub(crate) fn hear_capture<S: Source, L: Listener>(
     alloc: Global,
     packets: u32,
     input: &mut S,
@@ -53,12 +53,30 @@ pub fn hear_capture<S: Source, L: Listener>(
         (L.has_enough listener.new) result }
 {
     match hear_entries(alloc, packets, input, listener) {
-        Err(Ending::PacketLimit { limit }) => match fill(input, &mut [0; 1]) {
-            Filled::Whole => Err(Ending::PacketLimit { limit }),
-            Filled::End(_) => Ok(()),
-            Filled::Failed(_) => Err(Ending::InputFailed),
-        },
-        heard => heard,
+        Ok(()) => Ok(()),
+        Err(ending) => look_behind(input, ending),
+    }
+}
+
+/// Where as many came as were asked for, reads one byte more: there is more, or these were all.
+pub(crate) fn look_behind<S: Source>(input: &mut S, ending: Ending) -> Result<(), Ending>
+    ensures later { S.faults input.old ≤ S.faults input.new }
+    ensures looks { LooksBehind ending (input_of S.left S.faults input.old input.new) result }
+{
+    match ending {
+        Ending::PacketLimit { limit } => look_on(input, limit),
+        ending => Err(ending),
+    }
+}
+
+fn look_on<S: Source>(input: &mut S, limit: u32) -> Result<(), Ending>
+    ensures later { S.faults input.old ≤ S.faults input.new }
+    ensures looks { LooksOn limit (input_of S.left S.faults input.old input.new) result }
+{
+    match fill(input, &mut [0; 1]) {
+        Filled::Whole => Err(Ending::PacketLimit { limit }),
+        Filled::End(_) => Ok(()),
+        Filled::Failed(_) => Err(Ending::InputFailed),
     }
 }
 

@@ -2,10 +2,17 @@
 #![tactic(auto)]
 
 mod capture_inlet;
+mod form;
+mod heard;
 mod hearing;
 mod inlet;
+mod input;
 mod listener;
+mod pcap_inlet;
 
-pub use hearing::{hear_all, hear_capture};
+pub use form::InputForm;
+pub use heard::{Heard, RecordCounts};
+pub use hearing::hear_all;
 pub use inlet::Inlet;
+pub use input::hear_input;
 pub use listener::{Listener, ListenerFault, has_broken};

@@ -1,53 +1,56 @@
 ghost use Rattle.std.specs.Prelude.{◌≡◌, [], length};
 ghost use Rattle.link_hearing.specs.Hearing.{CanGoOn};
 ghost use Rattle.vc_ports.specs.Changes.{input_of, output_of};
-ghost use Rattle.cmd_rtcp.specs.Answering.{AnswersCapture};
-ghost use Rattle.cmd_rtcp.specs.Writings.{CanHear, Concludes, PutsCapture, writing_state};
+ghost use Rattle.cmd_rtcp.specs.Answering.{AnswersInput};
+ghost use Rattle.cmd_rtcp.specs.Writings.{CanHear, Concludes, PutsInput, writing_state};
 
 use crate::scribe::Scribe;
 use crate::writing::Writing;
-use link_hearing::{has_broken, hear_capture};
+use link_hearing::{Heard, InputForm, has_broken, hear_input};
 use link_report::Ending;
 use std::alloc::Global;
 use vc_ports::{Sink, Source};
 
-/// Has a scribe hear the datagrams of a capture's entries, at most so many, and writes what it says; answers
-/// how many there were. Where the input fails, or ends within an entry, or has one byte more than so many
-/// entries, what is due of those that were heard is written all the same.
-pub(crate) fn take_capture<I: Source, O: Sink, S: Scribe>(
+/// Has a scribe hear the datagrams of an input, of at most so many entries or records, and writes what it
+/// says; answers how many there were. Where the input fails, or isn't read to its end, what is due of those
+/// that were heard is written all the same.
+pub(crate) fn take_input<I: Source, O: Sink, S: Scribe>(
     alloc: Global,
+    form: InputForm,
     packets: u32,
     input: &mut I,
     output: &mut O,
     scribe: &mut S,
 ) -> Result<u64, Ending>
     requires { S.has_heard scribe.old scribe.old [] }
-    ensures { AnswersCapture (S.due scribe.old).in_all
-        (λ count heard. (count ≡ length heard) × S.has_ended scribe.old scribe.new heard) packets result
+    ensures { AnswersInput (S.due scribe.old).in_all
+        (λ count heard. (count ≡ length heard) × S.has_ended scribe.old scribe.new heard) form packets result
         (input_of I.left I.faults input.old input.new)
         (output_of O.held O.faults output.old output.new) }
 {
     let mut writing = Writing::new(scribe, output);
-    let heard = hear_datagrams(alloc, packets, input, &mut writing);
-    conclude(&mut writing, heard)
+    let heard = hear_datagrams(alloc, form, packets, input, &mut writing);
+    conclude(&mut writing, heard.ended)
 }
 
 // Has a scribe that has heard nothing hear them.
 fn hear_datagrams<I: Source, O: Sink, S: Scribe>(
     alloc: Global,
+    form: InputForm,
     packets: u32,
     input: &mut I,
     writing: &mut Writing<S, O>,
-) -> Result<(), Ending>
+) -> Heard
     requires none { writing.old.datagrams ≡ 0 }
     requires new { S.has_heard writing.old.scribe.now writing.old.scribe.now [] }
     ensures borrows_scribe { writing.new.scribe.ghost_name ≡ writing.old.scribe.ghost_name }
     ensures borrows_output { writing.new.output.ghost_name ≡ writing.old.output.ghost_name }
-    ensures ready { CanGoOn result → CanHear S.has_heard (writing_state O.held O.faults writing.new) }
-    ensures puts { PutsCapture S.has_heard S.due packets (input_of I.left I.faults input.old input.new)
+    ensures ready { CanGoOn result.ended → CanHear S.has_heard (writing_state O.held O.faults writing.new) }
+    ensures puts { PutsInput S.has_heard S.due form packets
+        (input_of I.left I.faults input.old input.new)
         (writing_state O.held O.faults writing.old) (writing_state O.held O.faults writing.new) result }
 {
-    hear_capture(alloc, packets, input, writing)
+    hear_input(alloc, form, packets, input, writing)
 }
 
 // Has it hear the end, unless it broke off, and says what hearing came to.

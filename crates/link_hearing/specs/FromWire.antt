@@ -1,0 +1,54 @@
+-- What a wire gave to a command that listens at an address, and where hearing it ends.
+use Rattle.std.specs.Prelude.{◌≡◌, ◌⊎◌, ◌≤◌, ◌<◌, ℕ, List, [], length, take, Option, Some}
+use Rattle.link_outside.specs.Passing.{Passes}
+use Rattle.link_report.specs.declared.answer.Answer.{Answer}
+use Rattle.link_report.specs.declared.answer.Answer.TheVariants.{Drained}
+use Rattle.link_report.specs.declared.ending.Ending.TheVariants.{WireFailed}
+use Rattle.link_report.specs.declared.summary.Summary.{Summary}
+use Rattle.vc_ports.specs.Changes.{WireChange, Stays}
+use Rattle.vc_ports.specs.Wires.{listening}
+use Rattle.link_hearing.specs.Sessions.{ended_sessions}
+
+-- ---- what it gave
+
+-- it listened at the address, and then gave these datagrams; nothing else was done to it
+abbrev pub HeardAt : List ℕ → WireChange → List (List ℕ) → Type 0
+HeardAt at wire heard = Passes (listening wire.told.before at) wire.told.after [] heard
+
+-- or it didn't come to listen, and nothing was done to it
+abbrev pub HeardAtMost : List ℕ → WireChange → List (List ℕ) → Type 0
+HeardAtMost at wire heard = HeardAt at wire heard ⊎ ((heard ≡ []) × Stays wire.told)
+
+-- ---- where hearing ends
+
+-- so many sessions of these datagrams have had their end, and not before the last of them
+pub record EndsSessions (sessions : ℕ) (heard : List (List ℕ)) : Type 0 where
+  pub reached : ended_sessions heard ≡ sessions
+  pub no_sooner : (k : ℕ) → k < length heard → ended_sessions (take k heard) < sessions
+
+-- fewer datagrams came than were asked for, and nothing more will come
+pub record EndsEarly (packets : ℕ) (coming : Option (List (List ℕ))) (heard : List (List ℕ))
+    : Type 0 where
+  pub fewer : length heard < packets
+  pub nothing_more : coming ≡ Some []
+
+-- the end of the session that was asked for came, or nothing more will come
+abbrev pub HeardToEnd : (packets sessions : ℕ) → WireChange → List (List ℕ) → Type 0
+HeardToEnd packets sessions wire heard =
+    EndsSessions sessions heard ⊎ EndsEarly packets wire.told.after.coming heard
+
+-- so many datagrams came, and that session goes on
+pub record IsPastPackets (packets sessions limit : ℕ) (heard : List (List ℕ)) : Type 0 where
+  pub limit_is : limit ≡ packets
+  pub count : length heard ≡ packets
+  pub goes_on : ended_sessions heard < sessions
+
+-- a call of the wire failed
+abbrev pub has_failed_wire : Answer → Type 0
+has_failed_wire answer = (summary : Summary) × (answer ≡ Drained summary WireFailed)
+
+-- what will come ends that session within so many datagrams, or has fewer
+abbrev pub IsReceivable : (packets sessions : ℕ) → List (List ℕ) → Type 0
+IsReceivable packets sessions coming =
+    ((k : ℕ) × (k ≤ packets) × (ended_sessions (take k coming) ≡ sessions))
+    ⊎ (length coming < packets)
