@@ -13,6 +13,7 @@ use Rattle.link_report.specs.declared.ending.Ending.TheVariants.{FrameLimit}
 use Rattle.link_report.specs.declared.summary.Summary.{Summary}
 use Rattle.link_report.specs.declared.summary.Summary.TheVariants.{Judged, Sent, Looped, Packed, Played}
 use Rattle.link_report.specs.declared.summary.Summary.TheVariants.{Generated, Compared, Reported, Shown}
+use Rattle.link_report.specs.declared.summary.Summary.TheVariants.{Recorded, Replayed}
 
 abbrev pub space : List ℕ
 space = 32 ∷ []
@@ -87,6 +88,17 @@ abbrev pub reported_lines : ℕ → ℕ → ℕ → List (List ℕ × ℕ)
 reported_lines datagrams packets reports =
     (codes "datagrams", datagrams) ∷ (codes "packets", packets) ∷ (codes "reports", reports) ∷ []
 
+abbrev pub recorded_lines : ℕ → ℕ → List (List ℕ × ℕ)
+recorded_lines datagrams sessions =
+    (codes "datagrams", datagrams) ∷ (codes "sessions", sessions) ∷ []
+
+abbrev pub replayed_lines : ℕ → ℕ → List (List ℕ × ℕ)
+replayed_lines datagrams bytes = (codes "datagrams", datagrams) ∷ (codes "bytes", bytes) ∷ []
+
+-- the lines of what was read of a pcap file
+abbrev pub record_lines : ℕ → ℕ → List (List ℕ × ℕ)
+record_lines records other = (codes "records", records) ∷ (codes "other", other) ∷ []
+
 -- the lines of a command that came to status 0
 unfoldable pub summary_lines : Summary → List (List ℕ × ℕ)
 summary_lines (Judged tally) = tally_lines tally
@@ -101,6 +113,8 @@ summary_lines (Compared frames samples different) =
     (codes "frames", frames) ∷ (codes "samples", samples) ∷ (codes "different", different) ∷ []
 summary_lines (Reported datagrams packets reports) = reported_lines datagrams packets reports
 summary_lines (Shown datagrams) = (codes "datagrams", datagrams) ∷ []
+summary_lines (Recorded datagrams sessions) = recorded_lines datagrams sessions
+summary_lines (Replayed datagrams bytes) = replayed_lines datagrams bytes
 
 abbrev pub summary_text : Summary → List ℕ
 summary_text summary = lines (summary_lines summary)

@@ -1,9 +1,12 @@
-ghost use Rattle.std.specs.Prelude.{◌≡◌, IfOk};
+ghost use Rattle.std.specs.Prelude.{◌≡◌, ◌++◌, IfOk, OnOk, map};
 ghost use Rattle.std.specs.String.{string_bytes};
 ghost use Rattle.vc_ports.specs.Changes.{output_of};
 ghost use Rattle.link_report.specs.Answers.{answer_of, answer_status, answer_text, Says, Reports};
+ghost use Rattle.link_report.specs.Answers.{ending_line};
+ghost use Rattle.link_report.specs.Report.{named, record_lines};
 ghost use Rattle.link_report.specs.declared.answer.Answer.{Answer};
 
+use crate::counts::{Count, push_counts};
 use crate::ending::Ending;
 use crate::summary::Summary;
 use std::alloc::Global;
@@ -23,6 +26,14 @@ pub enum Answer {
     Stopped(Ending),
     /// It read no further, and judged and wrote all that it had heard.
     Drained(Summary, Ending),
+    /// Either of a pcap file, of which so many records were read; `other` of them carry no datagram. Without an
+    /// ending it came to its end.
+    WithRecords {
+        summary: Summary,
+        records: u32,
+        other: u32,
+        ending: Option<Ending>,
+    },
 }
 
 impl From<Result<Summary, Ending>> for Answer {
@@ -41,8 +52,13 @@ impl Answer {
         ensures { result ≡ answer_status self.now }
     {
         match self {
-            Answer::Done(_) => DONE,
-            Answer::Stopped(ending) | Answer::Drained(_, ending) => ending.status(),
+            Answer::Done(_) | Answer::WithRecords { ending: None, .. } => DONE,
+            Answer::Stopped(ending)
+            | Answer::Drained(_, ending)
+            | Answer::WithRecords {
+                ending: Some(ending),
+                ..
+            } => ending.status(),
         }
     }
 
@@ -57,8 +73,38 @@ impl Answer {
                 summary.push_to(&mut text)?;
                 ending.push_to(&mut text)?;
             }
+            Answer::WithRecords {
+                summary,
+                records,
+                other,
+                ending,
+            } => {
+                summary.push_to(&mut text)?;
+                push_counts(&mut text, &recorded(*records, *other))?;
+                push_ending(&mut text, ending)?;
+            }
         }
         Ok(text)
+    }
+}
+
+// What was read of a pcap file.
+fn recorded(records: u32, other: u32) -> [Count; 2]
+    ensures { map named result ≡ record_lines records other }
+{
+    [
+        Count("records", u64::from(records)),
+        Count("other", u64::from(other)),
+    ]
+}
+
+// Adds the line of an ending to a text, where there is one.
+fn push_ending(text: &mut String, ending: &Option<Ending>) -> Result<(), NoMemory>
+    ensures { OnOk result (string_bytes text.new ≡ string_bytes text.old ++ ending_line ending.now) }
+{
+    match ending {
+        Some(ending) => ending.push_to(text),
+        None => Ok(()),
     }
 }
 

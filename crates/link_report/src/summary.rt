@@ -1,6 +1,7 @@
 ghost use Rattle.std.specs.Prelude.{◌≡◌, OnOk, ◌++◌, map};
 ghost use Rattle.std.specs.String.{string_bytes};
 ghost use Rattle.link_report.specs.Report.{named, sent_lines, packed_lines, played_lines, reported_lines};
+ghost use Rattle.link_report.specs.Report.{recorded_lines, replayed_lines};
 
 use crate::counts::{Count, push_counts, tally_counts};
 use link_model::Tally;
@@ -58,6 +59,16 @@ pub enum Summary {
     /// Datagrams were shown as text: `rtcp-show`.
     Shown {
         datagrams: u64,
+    },
+    /// Datagrams were recorded, in which so many sessions had their end: `record`.
+    Recorded {
+        datagrams: u64,
+        sessions: u64,
+    },
+    /// The datagrams of a capture were sent; `bytes` sums their lengths: `replay`.
+    Replayed {
+        datagrams: u64,
+        bytes: u64,
     },
 }
 
@@ -117,6 +128,13 @@ impl Summary {
                 reports,
             } => push_counts(text, &reported(datagrams, packets, reports)),
             Summary::Shown { datagrams } => push_counts(text, &[Count("datagrams", datagrams)]),
+            Summary::Recorded {
+                datagrams,
+                sessions,
+            } => push_counts(text, &recorded(datagrams, sessions)),
+            Summary::Replayed { datagrams, bytes } => {
+                push_counts(text, &replayed(datagrams, bytes))
+            }
         }
     }
 }
@@ -159,4 +177,16 @@ fn reported(datagrams: u64, packets: u64, reports: u64) -> [Count; 3]
         Count("packets", packets),
         Count("reports", reports),
     ]
+}
+
+fn recorded(datagrams: u64, sessions: u64) -> [Count; 2]
+    ensures { map named result ≡ recorded_lines datagrams sessions }
+{
+    [Count("datagrams", datagrams), Count("sessions", sessions)]
+}
+
+fn replayed(datagrams: u64, bytes: u64) -> [Count; 2]
+    ensures { map named result ≡ replayed_lines datagrams bytes }
+{
+    [Count("datagrams", datagrams), Count("bytes", bytes)]
 }

@@ -72,11 +72,12 @@ accepts_as None word = false
 
 -- ---- names
 
--- an index and a budget are two ways of one choice
+-- three ways to choose the indices of slices
 abbrev pub is_choice : List ℕ → Bool
 is_choice word = bytes_eq word (codes "--index") || bytes_eq word (codes "--fit")
+    || bytes_eq word (codes "--budget")
 
--- of two such names only one may be given, and only once
+-- of such names only one may be given, and only once
 abbrev pub excludes : List ℕ → List ℕ → Bool
 excludes earlier later = bytes_eq earlier later || (is_choice earlier && is_choice later)
 

@@ -8,15 +8,15 @@ use Rattle.link_words.specs.declared.options.Values.TheVariants.{Subsampling, Ad
 use Rattle.link_words.specs.declared.options.Name.{Name}
 use Rattle.link_words.specs.declared.options.Name.TheVariants.{Width, Height, Sampling, Range, Fields}
 use Rattle.link_words.specs.declared.options.Name.TheVariants.{Top, Wavelet, Depth, Slices, Prefix}
-use Rattle.link_words.specs.declared.options.Name.TheVariants.{Scaler, Size, Index, Fit, Ssrc, Seq}
+use Rattle.link_words.specs.declared.options.Name.TheVariants.{Scaler, Size, Index, Fit, Budget, Ssrc, Seq}
 use Rattle.link_words.specs.declared.options.Name.TheVariants.{Picture, Tick, Pt, Frames, Seed, Count}
-use Rattle.link_words.specs.declared.options.Name.TheVariants.{Check, Window, Workers, Packets, Sessions}
-use Rattle.link_words.specs.declared.options.Name.TheVariants.{To, At, Every, Reporter, Cname}
-use Rattle.link_words.specs.declared.options.Name.TheVariants.{BySender, Ntp}
+use Rattle.link_words.specs.declared.options.Name.TheVariants.{Check, Window, Workers, Packets, Pcap}
+use Rattle.link_words.specs.declared.options.Name.TheVariants.{Port, Sessions, To, At, Every}
+use Rattle.link_words.specs.declared.options.Name.TheVariants.{Reporter, Cname, BySender, Ntp}
 use Rattle.link_words.specs.declared.options.Command.{Command}
 use Rattle.link_words.specs.declared.options.Command.TheVariants.{Decode, Encode, Send, Recv, Loop}
 use Rattle.link_words.specs.declared.options.Command.TheVariants.{Unpack, Pack, Play, Gen}
-use Rattle.link_words.specs.declared.options.Command.TheVariants.{Rtcp, RtcpShow}
+use Rattle.link_words.specs.declared.options.Command.TheVariants.{Rtcp, RtcpShow, Record, Replay}
 
 abbrev pub command_of : List ℕ → Option Command
 command_of word =
@@ -31,6 +31,8 @@ command_of word =
     else if bytes_eq word (codes "gen") then Some Gen
     else if bytes_eq word (codes "rtcp") then Some Rtcp
     else if bytes_eq word (codes "rtcp-show") then Some RtcpShow
+    else if bytes_eq word (codes "record") then Some Record
+    else if bytes_eq word (codes "replay") then Some Replay
     else None
 
 -- the word of an option and its values: the least and the greatest number, and the default
@@ -49,6 +51,7 @@ option_row Scaler = (codes "--scaler", Number 1 255 2)
 option_row Size = (codes "--size", Number 64 65507 1400)
 option_row Index = (codes "--index", Number 0 127 0)
 option_row Fit = (codes "--fit", Optional 4 65535)
+option_row Budget = (codes "--budget", Optional 4 4294967295)
 option_row Ssrc = (codes "--ssrc", Number 0 4294967295 1)
 option_row Seq = (codes "--seq", Number 0 4294967295 0)
 option_row Picture = (codes "--picture", Number 0 4294967295 0)
@@ -61,6 +64,8 @@ option_row Check = (codes "--check", Number 0 1 0)
 option_row Window = (codes "--window", Number 2 8 4)
 option_row Workers = (codes "--workers", Number 0 64 4)
 option_row Packets = (codes "--packets", Number 1 4294967295 4294967295)
+option_row Pcap = (codes "--pcap", Number 0 1 0)
+option_row Port = (codes "--port", Number 0 65535 0)
 option_row Sessions = (codes "--sessions", Number 1 4294967295 1)
 option_row To = (codes "--to", Address)
 option_row At = (codes "--at", Address)
@@ -74,23 +79,25 @@ option_row Ntp = (codes "--ntp", Number 0 4294967295 0)
 abbrev pub sender_names : List Name
 sender_names =
     Width ∷ Height ∷ Sampling ∷ Range ∷ Fields ∷ Top
-    ∷ Wavelet ∷ Depth ∷ Slices ∷ Prefix ∷ Scaler ∷ Size ∷ Index ∷ Fit
+    ∷ Wavelet ∷ Depth ∷ Slices ∷ Prefix ∷ Scaler ∷ Size ∷ Index ∷ Fit ∷ Budget
     ∷ Ssrc ∷ Seq ∷ Picture ∷ Tick ∷ Pt ∷ Frames ∷ []
 
 -- the options of each command
 abbrev pub names_of : Command → List Name
-names_of Decode = Window ∷ Workers ∷ Packets ∷ []
-names_of Encode = sender_names
-names_of Send = sender_names ++ To ∷ []
+names_of Decode = Window ∷ Workers ∷ Packets ∷ Pcap ∷ Port ∷ []
+names_of Encode = sender_names ++ Workers ∷ []
+names_of Send = sender_names ++ Workers ∷ To ∷ []
 names_of Recv = Window ∷ Workers ∷ Packets ∷ Sessions ∷ At ∷ []
 names_of Loop = sender_names ++ Window ∷ Workers ∷ At ∷ []
-names_of Unpack = Window ∷ Workers ∷ Packets ∷ []
+names_of Unpack = Window ∷ Workers ∷ Packets ∷ Pcap ∷ Port ∷ []
 names_of Pack = Packets ∷ Size ∷ Ssrc ∷ Pt ∷ Seq ∷ Tick ∷ []
 names_of Play = Packets ∷ []
 names_of Gen =
     Width ∷ Height ∷ Sampling ∷ Range ∷ Fields ∷ Top ∷ Seed ∷ Count ∷ Check ∷ Window ∷ Workers ∷ []
-names_of Rtcp = Every ∷ Reporter ∷ Cname ∷ BySender ∷ Ntp ∷ Packets ∷ []
-names_of RtcpShow = Packets ∷ []
+names_of Rtcp = Every ∷ Reporter ∷ Cname ∷ BySender ∷ Ntp ∷ Packets ∷ Pcap ∷ Port ∷ []
+names_of RtcpShow = Packets ∷ Pcap ∷ Port ∷ []
+names_of Record = Packets ∷ Sessions ∷ At ∷ []
+names_of Replay = Packets ∷ To ∷ []
 
 -- the first of some options whose word this is
 abbrev pub name_in : List Name → List ℕ → Option Name

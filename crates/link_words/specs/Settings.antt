@@ -20,15 +20,15 @@ use Rattle.link_words.specs.declared.options.Values.TheVariants as values
 use Rattle.link_words.specs.declared.options.Name.{Name}
 use Rattle.link_words.specs.declared.options.Name.TheVariants.{Width, Height, Sampling, Range, Fields}
 use Rattle.link_words.specs.declared.options.Name.TheVariants.{Top, Wavelet, Depth, Slices, Prefix}
-use Rattle.link_words.specs.declared.options.Name.TheVariants.{Scaler, Size, Index, Fit, Ssrc, Seq}
+use Rattle.link_words.specs.declared.options.Name.TheVariants.{Scaler, Size, Index, Fit, Budget, Ssrc, Seq}
 use Rattle.link_words.specs.declared.options.Name.TheVariants.{Picture, Tick, Pt, Frames, Seed, Count}
-use Rattle.link_words.specs.declared.options.Name.TheVariants.{Check, Window, Workers, Packets, Sessions}
-use Rattle.link_words.specs.declared.options.Name.TheVariants.{To, At, Every, Reporter, Cname}
-use Rattle.link_words.specs.declared.options.Name.TheVariants.{BySender, Ntp}
+use Rattle.link_words.specs.declared.options.Name.TheVariants.{Check, Window, Workers, Packets, Pcap}
+use Rattle.link_words.specs.declared.options.Name.TheVariants.{Port, Sessions, To, At, Every}
+use Rattle.link_words.specs.declared.options.Name.TheVariants.{Reporter, Cname, BySender, Ntp}
 use Rattle.link_words.specs.declared.options.Command.{Command}
 use Rattle.link_words.specs.declared.options.Command.TheVariants.{Decode, Encode, Send, Recv, Loop}
 use Rattle.link_words.specs.declared.options.Command.TheVariants.{Unpack, Pack, Play, Gen}
-use Rattle.link_words.specs.declared.options.Command.TheVariants.{Rtcp, RtcpShow}
+use Rattle.link_words.specs.declared.options.Command.TheVariants.{Rtcp, RtcpShow, Record, Replay}
 
 -- ---- what is given
 
@@ -68,9 +68,15 @@ text_given words name default =
 abbrev pub default_name : List ℕ
 default_name = codes "vc2link"
 
+-- the port of the datagrams in a pcap file, where the input is one
+abbrev pub pcap_of : List (List ℕ) → Option ℕ
+pcap_of words = if is_set words Pcap then Some (given words Port) else None
+
 abbrev pub choice_of : List (List ℕ) → IndexChoice
 choice_of words =
-    if is_given words Fit then choices.Fit (given words Fit) else choices.Index (given words Index)
+    if is_given words Fit then choices.Fit (given words Fit)
+    else if is_given words Budget then choices.Budget (given words Budget)
+    else choices.Index (given words Index)
 
 -- ---- settings without their facts
 
@@ -145,25 +151,29 @@ generator words = if generating_fits (given_frames words) then Some (generating_
 
 -- a command with what it is set to
 pub data Meaning : Type 0 where
-  ToDecode : (window workers packets : ℕ) → Meaning
-  ToEncode : (sender : Sending) (frames : ℕ) → Meaning
-  ToSend : (sender : Sending) (frames : ℕ) (to : List ℕ) → Meaning
+  ToDecode : (window workers packets : ℕ) (pcap : Option ℕ) → Meaning
+  ToEncode : (sender : Sending) (frames workers : ℕ) → Meaning
+  ToSend : (sender : Sending) (frames workers : ℕ) (to : List ℕ) → Meaning
   ToRecv : (window workers packets sessions : ℕ) (at : List ℕ) → Meaning
   ToLoop : (sender : Sending) (frames window workers : ℕ) (at : List ℕ) → Meaning
-  ToUnpack : (window workers packets : ℕ) → Meaning
+  ToUnpack : (window workers packets : ℕ) (pcap : Option ℕ) → Meaning
   ToPack : (packets size ssrc pt seq tick : ℕ) → Meaning
   ToPlay : (packets : ℕ) → Meaning
   ToGen : (generator : Generating) (check : Bool) (window workers : ℕ) → Meaning
-  ToRtcp : (every ssrc : ℕ) (name : List ℕ) (is_sender : Bool) (ntp packets : ℕ) → Meaning
-  ToRtcpShow : (packets : ℕ) → Meaning
+  ToRtcp : (every ssrc : ℕ) (name : List ℕ) (is_sender : Bool) (ntp packets : ℕ) (pcap : Option ℕ)
+      → Meaning
+  ToRtcpShow : (packets : ℕ) (pcap : Option ℕ) → Meaning
+  ToRecord : (packets sessions : ℕ) (at : List ℕ) → Meaning
+  ToReplay : (packets : ℕ) (to : List ℕ) → Meaning
 
 -- what a command is set to, where its settings go together
 unfoldable pub meaning : Command → List (List ℕ) → Option Meaning
 meaning Decode words =
-    Some (ToDecode (given words Window) (given words Workers) (given words Packets))
-meaning Encode words = option_map (λ s. ToEncode s (given words Frames)) (sender words)
-meaning Send words =
-    option_map (λ s. ToSend s (given words Frames) (value_of words To)) (sender words)
+    Some (ToDecode (given words Window) (given words Workers) (given words Packets) (pcap_of words))
+meaning Encode words =
+    option_map (λ s. ToEncode s (given words Frames) (given words Workers)) (sender words)
+meaning Send words = option_map (λ s.
+    ToSend s (given words Frames) (given words Workers) (value_of words To)) (sender words)
 meaning Recv words =
     Some (ToRecv (given words Window) (given words Workers) (given words Packets)
     (given words Sessions) (value_of words At))
@@ -171,7 +181,7 @@ meaning Loop words = option_map (λ s.
     ToLoop s (given words Frames) (given words Window) (given words Workers) (value_of words At))
     (sender words)
 meaning Unpack words =
-    Some (ToUnpack (given words Window) (given words Workers) (given words Packets))
+    Some (ToUnpack (given words Window) (given words Workers) (given words Packets) (pcap_of words))
 meaning Pack words =
     Some (ToPack (given words Packets) (given words Size) (given words Ssrc) (given words Pt)
     (given words Seq) (given words Tick))
@@ -180,8 +190,11 @@ meaning Gen words = option_map (λ g.
     ToGen g (is_set words Check) (given words Window) (given words Workers)) (generator words)
 meaning Rtcp words =
     Some (ToRtcp (given words Every) (given words Reporter) (text_given words Cname default_name)
-    (is_set words BySender) (given words Ntp) (given words Packets))
-meaning RtcpShow words = Some (ToRtcpShow (given words Packets))
+    (is_set words BySender) (given words Ntp) (given words Packets) (pcap_of words))
+meaning RtcpShow words = Some (ToRtcpShow (given words Packets) (pcap_of words))
+meaning Record words =
+    Some (ToRecord (given words Packets) (given words Sessions) (value_of words At))
+meaning Replay words = Some (ToReplay (given words Packets) (value_of words To))
 
 abbrev pub lacks : List (List ℕ) → Name → Bool
 lacks words name = is_required (option_row name).1 && not (is_given words name)

@@ -5,37 +5,40 @@ use Rattle.vc_types.specs.Settings.{within}
 use Rattle.link_words.specs.declared.settings.Settings.{Settings}
 use Rattle.link_words.specs.declared.settings.Settings.TheVariants.{Decode, Encode, Send, Recv, Loop}
 use Rattle.link_words.specs.declared.settings.Settings.TheVariants.{Unpack, Pack, Play, Gen}
-use Rattle.link_words.specs.declared.settings.Settings.TheVariants.{Rtcp, RtcpShow}
+use Rattle.link_words.specs.declared.settings.Settings.TheVariants.{Rtcp, RtcpShow, Record, Replay}
 use Rattle.link_words.specs.Grammar.{IsText}
 use Rattle.link_words.specs.Settings.{Meaning, ToDecode, ToEncode, ToSend, ToRecv}
 use Rattle.link_words.specs.Settings.{ToLoop, ToUnpack, ToPack, ToPlay, ToGen, ToRtcp, ToRtcpShow}
+use Rattle.link_words.specs.Settings.{ToRecord, ToReplay}
 
 abbrev pub meaning_view : Settings → Meaning
-meaning_view (Decode window workers packets) = ToDecode window workers packets
-meaning_view (Encode sender frames) = ToEncode (sending_view sender) frames
-meaning_view (Send sender frames to) = ToSend (sending_view sender) frames to.now
+meaning_view (Decode window workers packets pcap) = ToDecode window workers packets pcap
+meaning_view (Encode sender frames workers) = ToEncode (sending_view sender) frames workers
+meaning_view (Send sender frames workers to) = ToSend (sending_view sender) frames workers to.now
 meaning_view (Recv window workers packets sessions at) =
     ToRecv window workers packets sessions at.now
 meaning_view (Loop sender frames window workers at) =
     ToLoop (sending_view sender) frames window workers at.now
-meaning_view (Unpack window workers packets) = ToUnpack window workers packets
+meaning_view (Unpack window workers packets pcap) = ToUnpack window workers packets pcap
 meaning_view (Pack packets size ssrc pt seq tick) = ToPack packets size ssrc pt seq tick
 meaning_view (Play packets) = ToPlay packets
 meaning_view (Gen generator check window workers) =
     ToGen (generating_view generator) check window workers
-meaning_view (Rtcp every ssrc name is_sender ntp packets) =
-    ToRtcp every ssrc name.now is_sender ntp packets
-meaning_view (RtcpShow packets) = ToRtcpShow packets
+meaning_view (Rtcp every ssrc name is_sender ntp packets pcap) =
+    ToRtcp every ssrc name.now is_sender ntp packets pcap
+meaning_view (RtcpShow packets pcap) = ToRtcpShow packets pcap
+meaning_view (Record packets sessions at) = ToRecord packets sessions at.now
+meaning_view (Replay packets to) = ToReplay packets to.now
 
 -- of the pictures that are open at a time there are 2 to 8
 abbrev pub IsWindow : ℕ → Type 0
 IsWindow window = (2 ≤ window) × (window ≤ 8)
 
 abbrev pub HasWindow : Settings → Type 0
-HasWindow (Decode window workers packets) = IsWindow window
+HasWindow (Decode window workers packets pcap) = IsWindow window
 HasWindow (Recv window workers packets sessions at) = IsWindow window
 HasWindow (Loop sender frames window workers at) = IsWindow window
-HasWindow (Unpack window workers packets) = IsWindow window
+HasWindow (Unpack window workers packets pcap) = IsWindow window
 HasWindow (Gen generator check window workers) = IsWindow window
 HasWindow other = Unit {0}
 
@@ -54,5 +57,5 @@ pub record AreReportRanges (every : ℕ) (name : List ℕ) : Type 0 where
   pub is_name : IsText name
 
 abbrev pub CanReport : Settings → Type 0
-CanReport (Rtcp every ssrc name is_sender ntp packets) = AreReportRanges every name.now
+CanReport (Rtcp every ssrc name is_sender ntp packets pcap) = AreReportRanges every name.now
 CanReport other = Unit {0}

@@ -100,7 +100,7 @@ fn accepts_as(name: Option<Name>, word: &str) -> bool
 fn is_choice(word: &str) -> bool
     ensures { result ≡ is_choice word.now }
 {
-    word == "--index" || word == "--fit"
+    word == "--index" || word == "--fit" || word == "--budget"
 }
 
 fn excludes(earlier: &str, later: &str) -> bool

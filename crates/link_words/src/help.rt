@@ -16,12 +16,14 @@ const HEAD: [&str; 7] = [
     "Commands, each with what it reads and writes and its options",
 ];
 
-const FILES: [&str; 8] = [
+const FILES: [&str; 10] = [
     "",
     "Files",
     "  raw frames: the planes Y, C1 and C2 of each frame, row by row; a sample has one byte where it has",
     "    8 bits, and else two, the lowest first (ffmpeg: yuv422p10le with --sampling 422 --range 3)",
     "  capture: the datagrams one after another, each behind its length in two bytes, the highest first",
+    "  pcap: a file of libpcap, of Ethernet frames or Linux cooked packets; pcapng is converted by",
+    "    editcap -F pcap or tshark -F pcap",
     "  elementary stream: the data units of ST 2042-1, section 10",
     "Input is standard input, output standard output; the report goes to standard error: its lines are",
     "a name and a number each.",
@@ -37,12 +39,12 @@ const STATUSES: [&str; 16] = [
     "  5   a write to the output failed",
     "  6   the network failed",
     "  7   a write to the report failed",
-    "  8   the capture ends within an entry",
+    "  8   the capture ends within an entry, or the pcap file within a record",
     "  9   there is more than --packets allows",
     "  10  the raw frames end within a frame",
     "  11  a sample has more bits than its --range",
     "  12  a slice is too large for its lengths or for a datagram: try --fit, --scaler or --size",
-    "  13  the elementary stream is damaged, or isn't of this profile",
+    "  13  the stream is damaged or of another profile, the pcap file is none, or an entry is too long to be sent",
     "  14  there are more frames than --frames allows",
 ];
 
@@ -113,6 +115,8 @@ fn word_of(command: Command) -> &'static str
         Command::Gen => "gen",
         Command::Rtcp => "rtcp",
         Command::RtcpShow => "rtcp-show",
+        Command::Record => "record",
+        Command::Replay => "replay",
     }
 }
 

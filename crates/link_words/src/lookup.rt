@@ -4,6 +4,7 @@ ghost use Rattle.link_words.specs.Grammar.{IsText};
 ghost use Rattle.link_words.specs.Options.{option_row, is_required, HasDefault, IsInRange};
 ghost use Rattle.link_words.specs.Settings.{stands_at, place_of, is_given, value_of};
 ghost use Rattle.link_words.specs.Settings.{number_meant, given, is_set, text_given, choice_of, lacks};
+ghost use Rattle.link_words.specs.Settings.{pcap_of};
 
 use crate::grammar::{is_text, word_at};
 use crate::numbers::number_within;
@@ -102,8 +103,22 @@ pub(crate) fn choice_of(words: &Words) -> IndexChoice
 {
     if is_given(words, Name::Fit) {
         IndexChoice::Fit(given(words, Name::Fit))
+    } else if is_given(words, Name::Budget) {
+        IndexChoice::Budget(given(words, Name::Budget))
     } else {
         IndexChoice::Index(given(words, Name::Index) as u8)
+    }
+}
+
+// The port of the datagrams in a pcap file, where the input is one.
+pub(crate) fn pcap_of(words: &Words) -> Option<u16>
+    requires { 0 < length words.now }
+    ensures { result ≡ pcap_of words.now }
+{
+    if is_set(words, Name::Pcap) {
+        Some(given(words, Name::Port) as u16)
+    } else {
+        None
     }
 }
 

@@ -1,7 +1,7 @@
 use crate::options::{Command, Name};
 
 /// The commands in the order of the page, each with what it reads and writes.
-pub(crate) const COMMANDS: [(Command, &str); 11] = [
+pub(crate) const COMMANDS: [(Command, &str); 13] = [
     (
         Command::Encode,
         "raw frames from the input; a capture of the datagrams that carry them to the output",
@@ -21,6 +21,14 @@ pub(crate) const COMMANDS: [(Command, &str); 11] = [
     (
         Command::Loop,
         "raw frames from the input, sent to an address and received there; raw frames to the output",
+    ),
+    (
+        Command::Record,
+        "datagrams from the network up to the end of a session; a capture of them to the output",
+    ),
+    (
+        Command::Replay,
+        "a capture from the input; its datagrams to the network",
     ),
     (
         Command::Play,
@@ -49,7 +57,7 @@ pub(crate) const COMMANDS: [(Command, &str); 11] = [
 ];
 
 /// The options in the order of the page, each with what it means.
-pub(crate) const NAMES: [(Name, &str); 34] = [
+pub(crate) const NAMES: [(Name, &str); 37] = [
     (Name::Width, "samples in a row of luma"),
     (Name::Height, "rows of luma in a frame"),
     (Name::Sampling, "4:4:4, 4:2:2 or 4:2:0"),
@@ -69,11 +77,15 @@ pub(crate) const NAMES: [(Name, &str); 34] = [
     (Name::Scaler, "a slice's lengths count so many bytes"),
     (
         Name::Index,
-        "the quantisation index of all slices; 0 loses nothing; not with --fit",
+        "the quantisation index of all slices; 0 loses nothing",
     ),
     (
         Name::Fit,
         "the least index at which a slice has so many bytes at most, else 127; not with --index",
+    ),
+    (
+        Name::Budget,
+        "bytes of a picture's slices, of which each fits its share, as by --fit; not with --index or --fit",
     ),
     (
         Name::Size,
@@ -99,9 +111,20 @@ pub(crate) const NAMES: [(Name, &str); 34] = [
     ),
     (
         Name::Workers,
-        "threads that decode slices; 0: none beside the first",
+        "threads that encode frames or decode slices; 0: none beside the first",
     ),
-    (Name::Packets, "datagrams, entries or units at most"),
+    (
+        Name::Packets,
+        "datagrams, entries, records or units at most",
+    ),
+    (
+        Name::Pcap,
+        "1: the input is a pcap file; its datagrams are the UDP payloads in it",
+    ),
+    (
+        Name::Port,
+        "with --pcap 1: the port to which datagrams go; 0: all ports",
+    ),
     (Name::Sessions, "how many ends of sequence are waited for"),
     (Name::Seed, "where the noise begins"),
     (Name::Count, "frames that are generated"),

@@ -2,9 +2,9 @@ ghost use Rattle.std.specs.Prelude.{◌≡◌};
 ghost use Rattle.link_words.specs.Options.{command_of, names_of, option_row, name_in, is_required};
 
 use Name::{
-    At, BySender, Check, Cname, Count, Depth, Every, Fields, Fit, Frames, Height, Index, Ntp,
-    Packets, Picture, Prefix, Pt, Range, Reporter, Sampling, Scaler, Seed, Seq, Sessions, Size,
-    Slices, Ssrc, Tick, To, Top, Wavelet, Width, Window, Workers,
+    At, Budget, BySender, Check, Cname, Count, Depth, Every, Fields, Fit, Frames, Height, Index,
+    Ntp, Packets, Pcap, Picture, Port, Prefix, Pt, Range, Reporter, Sampling, Scaler, Seed, Seq,
+    Sessions, Size, Slices, Ssrc, Tick, To, Top, Wavelet, Width, Window, Workers,
 };
 use Values::{Address, Number, Optional, Pair, Required, Subsampling, Text};
 
@@ -22,6 +22,8 @@ pub(crate) enum Command {
     Gen,
     Rtcp,
     RtcpShow,
+    Record,
+    Replay,
 }
 
 /// The options of all commands. `--frames` is two: how many are sent, and how many are generated. So is `--ssrc`:
@@ -42,6 +44,7 @@ pub(crate) enum Name {
     Size,
     Index,
     Fit,
+    Budget,
     Ssrc,
     Seq,
     Picture,
@@ -54,6 +57,8 @@ pub(crate) enum Name {
     Window,
     Workers,
     Packets,
+    Pcap,
+    Port,
     Sessions,
     To,
     At,
@@ -97,6 +102,8 @@ pub(crate) fn command_of(word: &str) -> Option<Command>
         "gen" => Some(Command::Gen),
         "rtcp" => Some(Command::Rtcp),
         "rtcp-show" => Some(Command::RtcpShow),
+        "record" => Some(Command::Record),
+        "replay" => Some(Command::Replay),
         _ => None,
     }
 }
@@ -120,6 +127,7 @@ pub(crate) fn option_row(name: Name) -> (&'static str, Values)
         Size => ("--size", Number(64, 65507, 1400)),
         Index => ("--index", Number(0, 127, 0)),
         Fit => ("--fit", Optional(4, 65535)),
+        Budget => ("--budget", Optional(4, 4294967295)),
         Ssrc => ("--ssrc", Number(0, 4294967295, 1)),
         Seq => ("--seq", Number(0, 4294967295, 0)),
         Picture => ("--picture", Number(0, 4294967295, 0)),
@@ -132,6 +140,8 @@ pub(crate) fn option_row(name: Name) -> (&'static str, Values)
         Window => ("--window", Number(2, 8, 4)),
         Workers => ("--workers", Number(0, 64, 4)),
         Packets => ("--packets", Number(1, 4294967295, 4294967295)),
+        Pcap => ("--pcap", Number(0, 1, 0)),
+        Port => ("--port", Number(0, 65535, 0)),
         Sessions => ("--sessions", Number(1, 4294967295, 1)),
         To => ("--to", Address),
         At => ("--at", Address),
@@ -148,27 +158,29 @@ pub(crate) fn names_of(command: Command) -> &'static [Name]
     ensures { result.now ≡ names_of command }
 {
     match command {
-        Command::Decode | Command::Unpack => &[Window, Workers, Packets],
+        Command::Decode | Command::Unpack => &[Window, Workers, Packets, Pcap, Port],
         Command::Encode => &[
             Width, Height, Sampling, Range, Fields, Top, Wavelet, Depth, Slices, Prefix, Scaler,
-            Size, Index, Fit, Ssrc, Seq, Picture, Tick, Pt, Frames,
+            Size, Index, Fit, Budget, Ssrc, Seq, Picture, Tick, Pt, Frames, Workers,
         ],
         Command::Send => &[
             Width, Height, Sampling, Range, Fields, Top, Wavelet, Depth, Slices, Prefix, Scaler,
-            Size, Index, Fit, Ssrc, Seq, Picture, Tick, Pt, Frames, To,
+            Size, Index, Fit, Budget, Ssrc, Seq, Picture, Tick, Pt, Frames, Workers, To,
         ],
         Command::Recv => &[Window, Workers, Packets, Sessions, At],
         Command::Loop => &[
             Width, Height, Sampling, Range, Fields, Top, Wavelet, Depth, Slices, Prefix, Scaler,
-            Size, Index, Fit, Ssrc, Seq, Picture, Tick, Pt, Frames, Window, Workers, At,
+            Size, Index, Fit, Budget, Ssrc, Seq, Picture, Tick, Pt, Frames, Window, Workers, At,
         ],
         Command::Pack => &[Packets, Size, Ssrc, Pt, Seq, Tick],
         Command::Play => &[Packets],
         Command::Gen => &[
             Width, Height, Sampling, Range, Fields, Top, Seed, Count, Check, Window, Workers,
         ],
-        Command::Rtcp => &[Every, Reporter, Cname, BySender, Ntp, Packets],
-        Command::RtcpShow => &[Packets],
+        Command::Rtcp => &[Every, Reporter, Cname, BySender, Ntp, Packets, Pcap, Port],
+        Command::RtcpShow => &[Packets, Pcap, Port],
+        Command::Record => &[Packets, Sessions, At],
+        Command::Replay => &[Packets, To],
     }
 }
 

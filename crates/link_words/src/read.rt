@@ -5,7 +5,7 @@ ghost use Rattle.link_words.specs.Settings.{meaning, lacks_name, settings_of};
 ghost use Rattle.link_words.specs.Views.{meaning_view, CanPack, CanReport, HasWindow};
 
 use crate::grammar::first_bad;
-use crate::lookup::{given, is_set, lacks, text_given, value_of};
+use crate::lookup::{given, is_set, lacks, pcap_of, text_given, value_of};
 use crate::options::{Command, Name, command_of, names_of};
 use crate::sender::{generator, sender};
 use crate::settings::Settings;
@@ -24,20 +24,24 @@ fn settings<'a>(command: Command, words: &'a Words) -> Option<Settings<'a>>
     let window = given(words, Name::Window) as u8;
     let workers = given(words, Name::Workers);
     let packets = given(words, Name::Packets);
+    let pcap = pcap_of(words);
     let frames = given(words, Name::Frames);
     Some(match command {
         Command::Decode => Settings::Decode {
             window,
             workers,
             packets,
+            pcap,
         },
         Command::Encode => Settings::Encode {
             sender: sender(words)?,
             frames,
+            workers,
         },
         Command::Send => Settings::Send {
             sender: sender(words)?,
             frames,
+            workers,
             to: value_of(words, Name::To),
         },
         Command::Recv => Settings::Recv {
@@ -58,6 +62,7 @@ fn settings<'a>(command: Command, words: &'a Words) -> Option<Settings<'a>>
             window,
             workers,
             packets,
+            pcap,
         },
         Command::Pack => Settings::Pack {
             packets,
@@ -81,8 +86,18 @@ fn settings<'a>(command: Command, words: &'a Words) -> Option<Settings<'a>>
             is_sender: is_set(words, Name::BySender),
             ntp: given(words, Name::Ntp),
             packets,
+            pcap,
         },
-        Command::RtcpShow => Settings::RtcpShow { packets },
+        Command::RtcpShow => Settings::RtcpShow { packets, pcap },
+        Command::Record => Settings::Record {
+            packets,
+            sessions: given(words, Name::Sessions),
+            at: value_of(words, Name::At),
+        },
+        Command::Replay => Settings::Replay {
+            packets,
+            to: value_of(words, Name::To),
+        },
     })
 }
 

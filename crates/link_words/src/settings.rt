@@ -1,21 +1,25 @@
 use vc_types::{GenSettings, SendSettings};
 
 /// What the words of a command line say: a command and its options, defaults filled in. An address is a word, and
-/// so is a reporter's name.
+/// so is a reporter's name. `pcap` is the port of the datagrams in a pcap file, where the input is one and no
+/// capture; port 0 stands for all.
 #[derive(Clone, Copy)]
 pub enum Settings<'a> {
     Decode {
         window: u8,
         workers: u32,
         packets: u32,
+        pcap: Option<u16>,
     },
     Encode {
         sender: SendSettings,
         frames: u32,
+        workers: u32,
     },
     Send {
         sender: SendSettings,
         frames: u32,
+        workers: u32,
         to: &'a str,
     },
     Recv {
@@ -36,6 +40,7 @@ pub enum Settings<'a> {
         window: u8,
         workers: u32,
         packets: u32,
+        pcap: Option<u16>,
     },
     Pack {
         packets: u32,
@@ -61,8 +66,19 @@ pub enum Settings<'a> {
         is_sender: bool,
         ntp: u32,
         packets: u32,
+        pcap: Option<u16>,
     },
     RtcpShow {
         packets: u32,
+        pcap: Option<u16>,
+    },
+    Record {
+        packets: u32,
+        sessions: u32,
+        at: &'a str,
+    },
+    Replay {
+        packets: u32,
+        to: &'a str,
     },
 }
