@@ -68,11 +68,13 @@ class Turns:
         """The median of a program's processor time."""
         return statistics.median(self.processors[number])
 
-    def ratio(self):
-        """How the first program stands to the second, as words, if there is a second one."""
-        if len(self.processors) < 2:
+    def ratio(self, by_clock=False):
+        """How the first program stands to the second, by processor time or by the clock, as words, if there is a second
+        one."""
+        times = self.clock if by_clock else self.processors
+        if len(times) < 2:
             return ""
-        ratios = sorted(own / other for own, other in zip(*self.processors))
+        ratios = sorted(own / other for own, other in zip(*times))
         return (f" ({statistics.median(ratios):.2f} of ffmpeg by the median of {len(ratios)} turns, "
                 f"{ratios[0]:.2f} to {ratios[-1]:.2f})")
 

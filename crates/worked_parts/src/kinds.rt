@@ -1,7 +1,7 @@
 use crate::words::spread;
 use crate::{
-    bits, codes, datagrams, fields, headers, lines, low_delay, narrow_planes, parameters, places,
-    planes, ports, quantisers, reports, sizes, slices, wires,
+    bits, captures, codes, datagrams, fields, headers, lines, low_delay, narrow_planes, parameters,
+    places, planes, ports, quantisers, reports, sizes, slices, wires,
 };
 use std::alloc::Global;
 use worked_common::{Bad, Part};
@@ -104,6 +104,23 @@ fn add_of_reports(
         "sr-written" => reports::sr_written(alloc, parts, given, into),
         "compound" => reports::compound(alloc, parts, given, into),
         "compound-cuts" => reports::compound_cuts(alloc, parts, given, into),
+        _ => add_of_captures(alloc, parts, kind, given, into),
+    }
+}
+
+fn add_of_captures(
+    alloc: Global,
+    parts: &[Part],
+    kind: &str,
+    given: &str,
+    into: &mut String,
+) -> Result<(), Bad> {
+    match kind {
+        "carried" => captures::carried_by(alloc, parts, given, into),
+        "carried-cuts" => captures::carried_cuts(alloc, parts, given, into),
+        "records" => captures::records(alloc, parts, given, into),
+        "record-cuts" => captures::record_cuts(alloc, parts, given, into),
+        "fed" => captures::fed(alloc, parts, given, into),
         _ => add_of_quantisers(alloc, kind, given, into),
     }
 }

@@ -2,6 +2,7 @@
 #![tactic(auto)]
 
 mod bits;
+mod captures;
 mod codes;
 mod datagrams;
 mod fields;

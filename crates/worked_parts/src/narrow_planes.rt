@@ -9,51 +9,35 @@ use std::alloc::Global;
 use vc_geometry::padded;
 use vc_types::Plane;
 use vc_wave::{
-    Nesting, forward_fits_narrow, forward_narrow, inverse_output, nesting_of, row_in_turn,
-    turn_rows,
+    Nesting, forward_fits_narrow, forward_narrow, inverse_output, nesting_of, room_len, row_in_turn,
 };
 use worked_common::Bad;
 
-// The samples of coefficients, whose rows are taken in turn, if 32 bits are enough.
-fn put_out(alloc: Global, of: &PlannedPlane, cells: &mut [i32]) -> Result<Option<Vec<u16>>, Bad> {
+// The samples of coefficients, which stand row by row in nested subbands, if 32 bits are enough.
+fn put_out(alloc: Global, of: &PlannedPlane, nested: &[i32]) -> Result<Option<Vec<u16>>, Bad> {
     let (width, height) = padded(&of.plan, of.component);
-    let (columns, rows) = (width as usize, height as usize);
-    if cells.len() != rows * columns {
+    if nested.len() != height as usize * width as usize {
         return Err(Bad::NoRow);
     }
     let format = format_of(&of.plan, of.component);
-    let mut line = vec![in alloc; 0i32; columns]?;
+    let mut room = vec![in alloc; 7i32; room_len(&of.plan, of.component)]?;
     let mut made = vec![in alloc; 7u16; format.rows * format.columns]?;
     let fits = inverse_output(
         &of.plan,
         of.component,
-        cells,
-        columns,
-        line.as_mut_slice(),
+        nested,
+        room.as_mut_slice(),
         made.as_mut_slice(),
         format,
     );
     Ok(if fits { Some(made) } else { None })
 }
 
-// The same coefficients, which stand row by row in nested subbands, with their rows taken in turn.
-fn turned(alloc: Global, of: &PlannedPlane, nested: &[i32]) -> Result<Vec<i32>, Bad> {
-    let (width, height) = padded(&of.plan, of.component);
-    let count = width as usize * height as usize;
-    if nested.len() != count {
-        return Err(Bad::NoRow);
-    }
-    let mut cells = vec![in alloc; 0i32; count]?;
-    turn_rows(&of.plan, of.component, nested, cells.as_mut_slice());
-    Ok(cells)
-}
-
 /// The samples of coefficients, clipped, in 32 bits, or that these aren't enough.
 pub(crate) fn outputs(alloc: Global, given: &str, into: &mut String) -> Result<(), Bad> {
     let (planned, cells) = planned(alloc, given)?;
     let nested = short_numbers(alloc, cells)?;
-    let mut cells = turned(alloc, &planned, nested.as_slice())?;
-    match put_out(alloc, &planned, cells.as_mut_slice())? {
+    match put_out(alloc, &planned, nested.as_slice())? {
         Some(made) => add_samples(alloc, into, made.as_slice()),
         None => add_word(into, "wide"),
     }
@@ -87,30 +71,15 @@ fn add_sum(alloc: Global, samples: &[u16], into: &mut String) -> Result<(), Bad>
     add_number(alloc, into, weighed(wide.as_slice()))
 }
 
-/// The sum of each sample times its place where all coefficients, whose rows are taken in turn, are so
-/// large, or that 32 bits aren't enough.
-pub(crate) fn extreme_outputs(alloc: Global, given: &str, into: &mut String) -> Result<(), Bad> {
-    let (planned, most) = planned(alloc, given)?;
-    let Ok(most) = i32::try_from(natural(most)?) else {
-        return Err(Bad::NoRow);
-    };
-    let (width, height) = padded(&planned.plan, planned.component);
-    let mut cells = extreme_cells(alloc, width * height, most)?;
-    match put_out(alloc, &planned, cells.as_mut_slice())? {
-        Some(made) => add_sum(alloc, made.as_slice(), into),
-        None => add_word(into, "wide"),
-    }
-}
-
-fn cell_at(cells: &[i32], columns: usize, x: usize, row: usize) -> Result<i128, Bad> {
+fn cell_at(cells: &[i32], columns: usize, x: usize, row: usize) -> Result<i32, Bad> {
     match cells.get(row.wrapping_mul(columns).wrapping_add(x)) {
-        Some(cell) => Ok(i128::from(*cell)),
+        Some(cell) => Ok(*cell),
         None => Err(Bad::NoRow),
     }
 }
 
 // The same coefficients, whose rows are taken in turn, row by row in nested subbands.
-fn nested(alloc: Global, of: &PlannedPlane, cells: &[i32]) -> Result<Vec<i128>, Bad> {
+fn nested(alloc: Global, of: &PlannedPlane, cells: &[i32]) -> Result<Vec<i32>, Bad> {
     let (width, height) = padded(&of.plan, of.component);
     let (columns, rows) = (width as usize, height as usize);
     let mut nested = Vec::new(alloc);
@@ -121,6 +90,30 @@ fn nested(alloc: Global, of: &PlannedPlane, cells: &[i32]) -> Result<Vec<i128>, 
         }
     }
     Ok(nested)
+}
+
+/// The sum of each sample times its place where all coefficients, whose rows are taken in turn, are so
+/// large, or that 32 bits aren't enough.
+pub(crate) fn extreme_outputs(alloc: Global, given: &str, into: &mut String) -> Result<(), Bad> {
+    let (planned, most) = planned(alloc, given)?;
+    let Ok(most) = i32::try_from(natural(most)?) else {
+        return Err(Bad::NoRow);
+    };
+    let (width, height) = padded(&planned.plan, planned.component);
+    let turned = extreme_cells(alloc, width * height, most)?;
+    let cells = nested(alloc, &planned, turned.as_slice())?;
+    match put_out(alloc, &planned, cells.as_slice())? {
+        Some(made) => add_sum(alloc, made.as_slice(), into),
+        None => add_word(into, "wide"),
+    }
+}
+
+fn widened(alloc: Global, cells: &[i32]) -> Result<Vec<i128>, Bad> {
+    let mut wide = Vec::new(alloc);
+    for cell in cells {
+        wide.push(i128::from(*cell))?;
+    }
+    Ok(wide)
 }
 
 // The coefficients of a plane row by row in nested subbands, if 32 bits are enough.
@@ -147,7 +140,8 @@ fn parted_plane(alloc: Global, of: &PlannedPlane, plane: &Plane) -> Result<Optio
         cells.as_mut_slice(),
         line.as_mut_slice(),
     );
-    Ok(Some(nested(alloc, of, cells.as_slice())?))
+    let nested = nested(alloc, of, cells.as_slice())?;
+    Ok(Some(widened(alloc, nested.as_slice())?))
 }
 
 // So many samples, which are 0 or the greatest, as they come.
