@@ -24,7 +24,7 @@ sent_by_default f = record {
   ssrc = 1;
   seq = 0;
   picture = 0;
-  tick = 3600;
+  rate = record { ticks = 3600; frames = 1 };
   pt = 96;
 }
 

@@ -2,7 +2,7 @@ ghost use Rattle.std.specs.Prelude.{◌≡◌};
 ghost use Rattle.link_gen.specs.Defaults.{sent_by_default};
 ghost use Rattle.vc_types.specs.SenderSettings.{generating_view, sending_view};
 
-use vc_types::{GenSettings, IndexChoice, SendSettings, picture_height};
+use vc_types::{FrameRate, GenSettings, IndexChoice, SendSettings, picture_height};
 
 /// How generated frames are sent where nothing else is said: at index 0, and else by the defaults.
 pub fn default_settings(g: &GenSettings) -> SendSettings
@@ -26,7 +26,7 @@ pub fn default_settings(g: &GenSettings) -> SendSettings
         ssrc: 1,
         seq: 0,
         picture: 0,
-        tick: 3600,
+        rate: FrameRate::of_ticks(3600),
         pt: 96,
     }
 }

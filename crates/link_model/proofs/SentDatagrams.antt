@@ -8,11 +8,12 @@ use Rattle.link_model.proofs.WrittenPayloads.{payload-payload_bytes}
 use Rattle.std.proofs.lemmas.Bool.Decides.{nat_tests}
 use Rattle.vc_types.specs.declared.settings.SendSettings.{SendSettings}
 use Rattle.vc_types.specs.Limits.{slices_fit}
+use Rattle.vc_types.specs.Rates.{stamp_at}
 use Rattle.vc_types.specs.SenderSettings.{Sending, sending_view}
 
 packet_fits : (s : Sending) (number : ℕ) (o : Outgoing) (bytes : ℕ) → AreSettings s → RtpFits (sent_packet s number o bytes)
-unfolding sent_packet timestamp_of
-packet_fits s number o bytes are = record { payload_type = are.payload_type; sequence = omega arith; timestamp = (grind arith); ssrc = are.ssrc }
+unfolding sent_packet timestamp_of stamp_at
+packet_fits s number o bytes are = record { payload_type = are.payload_type; sequence = omega arith; timestamp = omega arith; ssrc = are.ssrc }
 
 head_fits : (s : Sending) (number picture : ℕ) → AreSettings s → HeadFits (sent_head s number picture)
 head_fits s number picture are = record { high = omega arith; number = omega arith; prefix = are.prefix; scaler = are.scaler }

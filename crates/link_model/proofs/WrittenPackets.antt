@@ -1,6 +1,6 @@
 -- An RTP header that was written is read back.
 use Rattle.std.proofs.Common.{◌≡◌, ◌<◌, ℕ, ◌+◌, ◌/◌, ◌%◌, ◌^◌, Bool, true, false, List, ◌++◌, length, Ok, refl, arith, if◌then◌else◌, ◌==◌, le-ltb}
-use Rattle.link_model.specs.Packets.{RtpPacket, RtpFits, marker, payload_type, rtp_packet, rtp_header, is_shaped, header_end, payload_end, packet_fields}
+use Rattle.link_model.specs.Packets.{RtpPacket, RtpFits, rtp_packet, rtp_header, is_shaped, header_end, payload_end, packet_fields}
 
 -- the marker and the payload type in one byte
 marker_is : (m : Bool) (t : ℕ) → t < 2 ^ 7 → ((if m then 128 + t else t) / 128 == 1) ≡ m

@@ -14,6 +14,7 @@ use Rattle.link_model.specs.SendingPictures.{chosen_indices}
 use Rattle.vc_types.specs.FieldPairs.{fields_of}
 use Rattle.vc_types.specs.Fields.{joined}
 use Rattle.vc_types.specs.Planes.{Planes}
+use Rattle.vc_types.specs.Rates.{stamp_at}
 use Rattle.vc_types.specs.SenderSettings.{Sending}
 use Rattle.vc_types.specs.Subbands.{slice_count}
 
@@ -84,11 +85,9 @@ abbrev pub has_marker : Sending → DatagramContent → Bool
 has_marker s (SlicesContent run) = run_end run == s.across * s.down
 has_marker s content = false
 
--- frame f has f ticks, and its second field half a tick more
+-- a field is shown for half as long as a frame
 unfoldable pub timestamp_of : Sending → ℕ → ℕ
-timestamp_of s picture =
-    if s.frames.fields then (picture / 2 * s.tick + picture % 2 * (s.tick / 2)) % 2 ^ 32
-    else picture * s.tick % 2 ^ 32
+timestamp_of s picture = stamp_at s.rate (if s.frames.fields then picture else 2 * picture)
 
 -- I (the bit of value 2) with field coding, F (the bit of value 1) in a second field
 abbrev pub flags_byte : Sending → ℕ → ℕ

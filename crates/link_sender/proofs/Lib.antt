@@ -1,4 +1,3 @@
-mod Places
 pub mod Outside
 mod SampleFaults
 pub mod Numbered
@@ -10,7 +9,6 @@ pub mod Cutting
 mod Putting
 pub mod SentAsPacked
 pub mod Rooms
-mod Stamps
 mod SharedCells
 mod CodedLengths
 pub mod SentBytes

@@ -89,7 +89,7 @@ module _ (p : Picture) (slices : List ℕ) (x y : Outbox) (pictures time : ℕ) 
   old = record { pictures = pictures; sequence = x.sequence; timestamp = time }
 
   abbrev new : PackCounts
-  new = record { pictures = (pictures + 1) % 2 ^ 64; sequence = y.sequence; timestamp = p.timestamp }
+  new = record { pictures = (pictures + 1) % 2 ^ 63; sequence = y.sequence; timestamp = p.timestamp }
 
   same_one : (n : ℕ) (c : DatagramContent) → packed_value s (heads_of p) n c ≡ packed_value s (packed_view p slices) n c
   same_one n HeaderContent = refl

@@ -10,7 +10,7 @@ use Rattle.link_sender.specs.Packing.{bytes_of_all}
 use Rattle.link_sender.specs.PackRefusals.{SaysLarge}
 use Rattle.vc_types.specs.SenderSettings.{Packing}
 
--- how many pictures there were, modulo 2 ^ 64, the extended sequence number of the next datagram,
+-- how many pictures there were, modulo 2 ^ 63, the extended sequence number of the next datagram,
 -- modulo 2 ^ 32, and the timestamp of the last
 pub record PackCounts : Type 0 where
   pub pictures : ℕ
@@ -24,7 +24,7 @@ counts_of p =
 -- a picture behind so many pictures, and so many datagrams of it
 abbrev pub counts_behind : Packing → PackCounts → PackedPicture → ℕ → PackCounts
 counts_behind s n p datagrams = record {
-  pictures = (n.pictures + 1) % 2 ^ 64;
+  pictures = (n.pictures + 1) % 2 ^ 63;
   sequence = (n.sequence + datagrams) % 2 ^ 32;
   timestamp = packed_timestamp s n.pictures p.number;
 }

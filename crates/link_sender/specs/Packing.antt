@@ -1,5 +1,5 @@
 -- Datagrams that are put one behind another.
-use Rattle.std.specs.Prelude.{◌≡◌, ◌+◌, ◌*◌, ◌%◌, ◌^◌, ℕ, Bool, true, List, ◌++◌, length, map}
+use Rattle.std.specs.Prelude.{◌≡◌, ◌<◌, ◌+◌, ◌*◌, ◌%◌, ◌^◌, ℕ, Bool, true, List, ◌++◌, length, map}
 use Rattle.link_model.specs.Packets.{RtpPacket, rtp_header, PayloadValue, payload_bytes}
 use Rattle.link_model.specs.Sending.{Outgoing, datagrams_from, number_bits, pictures_per_frame, timestamp_of}
 use Rattle.link_model.specs.SendingPictures.{sent_header, sent_parameter_bytes, sent_parameters}
@@ -18,9 +18,9 @@ bytes_of_all datagrams = map (λ d. d.bytes.items) datagrams
 abbrev pub picture_at : Sending → PicturePlace → ℕ
 picture_at s place = place.frame * pictures_per_frame s + digit_of place.second
 
--- there are second fields with field coding alone
+-- frames are counted in 63 bits, and there are second fields with field coding alone
 abbrev pub IsPlace : Sending → PicturePlace → Type 0
-IsPlace s place = place.second ≡ true → s.frames.fields ≡ true
+IsPlace s place = (place.frame < 2 ^ 63) × (place.second ≡ true → s.frames.fields ≡ true)
 
 abbrev pub packet_with : Sending → ℕ → ℕ → Bool → RtpPacket
 packet_with s number timestamp marker = record {
@@ -51,7 +51,7 @@ packing_of s = record {
   ssrc = s.ssrc;
   pt = s.pt;
   seq = s.seq;
-  tick = s.tick;
+  rate = s.rate;
   fields = s.frames.fields;
 }
 

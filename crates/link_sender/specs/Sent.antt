@@ -87,8 +87,8 @@ coded_frame_outgoing s f coded =
 
 -- ---- a frame
 
--- what a sender goes on with: the numbers of the next frame and of the next datagram, modulo
--- 2 ^ 32, and the timestamp of the last
+-- what a sender goes on with: the numbers of the next frame, modulo 2 ^ 63, and of the next datagram,
+-- modulo 2 ^ 32, and the timestamp of the last
 pub record Numbers : Type 0 where
   pub frame : ℕ
   pub number : ℕ
@@ -97,7 +97,7 @@ pub record Numbers : Type 0 where
 -- the numbers behind a frame of so many datagrams
 abbrev pub numbers_behind : Sending → Numbers → ℕ → Numbers
 numbers_behind s n datagrams = record {
-  frame = (n.frame + 1) % 2 ^ 32;
+  frame = (n.frame + 1) % 2 ^ 63;
   number = (n.number + datagrams) % 2 ^ 32;
   timestamp = timestamp_of s (n.frame * pictures_per_frame s + (pictures_per_frame s - 1));
 }

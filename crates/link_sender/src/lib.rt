@@ -8,6 +8,7 @@ mod fields;
 mod laws;
 mod outbox;
 mod packer;
+mod packing;
 mod parts;
 mod picture;
 mod place;

@@ -1,5 +1,5 @@
-ghost use Rattle.std.specs.Prelude.{◌≡◌, IfOk, OnErr, OnOk, length};
-ghost use Rattle.link_model.specs.Sending.{datagrams_from};
+ghost use Rattle.std.specs.Prelude.{◌≡◌, ◌*◌, IfOk, OnErr, OnOk, length};
+ghost use Rattle.link_model.specs.Sending.{datagrams_from, pictures_per_frame, timestamp_of};
 ghost use Rattle.link_model.specs.SendingPictures.{IsFrame, packed_bits, sent_header, sent_parameter_bytes};
 ghost use Rattle.link_sender.specs.Packing.{IsPictureAt, IsPlace, Sends};
 ghost use Rattle.link_sender.specs.Packing.{bytes_of_all, packing_of, picture_at};
@@ -78,6 +78,18 @@ impl<F: Fn(&SliceNeed) -> u8> Sender<F> {
         Ok(self.put_frame(&slices)?)
     }
 
+    /// The timestamp of the next frame, and with field coding of its earlier field.
+    pub fn next_timestamp(&self) -> u32
+        ensures { result ≡ timestamp_of (sending_view self.now.settings)
+            (self.now.frame * pictures_per_frame (sending_view self.now.settings)) }
+    {
+        let next = PicturePlace {
+            frame: self.frame,
+            second: false,
+        };
+        timestamp(&self.settings, &next)
+    }
+
     /// The end of the sequence, with the timestamp of the last datagram, 0 if there was none.
     pub fn finish(&mut self) -> Result<Datagram, NoMemory>
         ensures settings { self.new.settings ≡ self.old.settings }
@@ -116,7 +128,7 @@ impl<F: Fn(&SliceNeed) -> u8> Sender<F> {
             second: self.settings.fields,
         };
         self.timestamp = timestamp(&self.settings, &last);
-        self.frame = self.frame.wrapping_add(1);
+        self.frame = (self.frame + 1) % (1 << 63);
         self.number = outbox.sequence;
         Ok(outbox.datagrams)
     }
@@ -235,7 +247,7 @@ fn packing(s: &SendSettings) -> PackSettings
         ssrc: s.ssrc,
         pt: s.pt,
         seq: s.seq,
-        tick: s.tick,
+        rate: s.rate,
         fields: s.fields,
     }
 }

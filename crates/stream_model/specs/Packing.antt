@@ -10,6 +10,7 @@ use Rattle.link_model.specs.Packets.{Params, Slices, payload_bytes}
 use Rattle.link_model.specs.Sending.{DatagramContent, HeaderContent, ParametersContent}
 use Rattle.link_model.specs.Sending.{SlicesContent, EndContent, high_half, run_bytes, run_end}
 use Rattle.link_model.specs.Sending.{runs_of_slices}
+use Rattle.vc_types.specs.Rates.{stamp_at}
 use Rattle.vc_types.specs.SenderSettings.{Packing}
 use Rattle.vc_types.specs.Subbands.{slice_count}
 use Rattle.vc_types.specs.TransformParameters.{Parameters}
@@ -75,12 +76,11 @@ first_large_part s p =
 
 -- ---- the fields of a datagram
 
--- Frame f has f ticks, and its second field half a tick more: f counts the pictures before, or with
--- field coding two of them, and odd-numbered pictures are second fields.
+-- With field coding two of the pictures before are a frame, and odd-numbered pictures are second fields,
+-- which come half a frame later.
 unfoldable pub packed_timestamp : Packing → ℕ → ℕ → ℕ
 packed_timestamp s before number =
-    if s.fields then (before / 2 * s.tick + number % 2 * (s.tick / 2)) % 2 ^ 32
-    else before * s.tick % 2 ^ 32
+    stamp_at s.rate (if s.fields then 2 * (before / 2) + number % 2 else 2 * before)
 
 -- I (the bit of value 2) with field coding, F (the bit of value 1) in a second field
 abbrev pub packed_flags : Packing → ℕ → ℕ

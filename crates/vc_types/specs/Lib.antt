@@ -20,6 +20,7 @@ pub mod ParameterSpelling
 pub mod Settings
 pub mod SameValues
 pub mod PictureBytes
+pub mod Rates
 pub mod SenderSettings
 pub mod ParseCodes
 pub mod DataUnits

@@ -5,6 +5,7 @@ use Rattle.vc_types.specs.declared.settings.GenSettings.{GenSettings}
 use Rattle.vc_types.specs.declared.settings.PackSettings.{PackSettings}
 use Rattle.vc_types.specs.declared.settings.SendSettings.{SendSettings}
 use Rattle.vc_types.specs.declared.video.Sampling.{Sampling}
+use Rattle.vc_types.specs.Rates.{Rate, rate_view}
 
 -- which frames are sent; the range is the number of their signal range
 pub record Frames : Type 0 where
@@ -29,7 +30,7 @@ pub record Sending : Type 0 where
   pub ssrc : ℕ
   pub seq : ℕ
   pub picture : ℕ
-  pub tick : ℕ
+  pub rate : Rate
   pub pt : ℕ
 
 abbrev pub sending_view : SendSettings → Sending
@@ -53,7 +54,7 @@ sending_view s = record {
   ssrc = s.ssrc;
   seq = s.seq;
   picture = s.picture;
-  tick = s.tick;
+  rate = rate_view s.rate;
   pt = s.pt;
 }
 
@@ -63,7 +64,7 @@ pub record Packing : Type 0 where
   pub ssrc : ℕ
   pub pt : ℕ
   pub seq : ℕ
-  pub tick : ℕ
+  pub rate : Rate
   pub fields : Bool
 
 abbrev pub packing_view : PackSettings → Packing
@@ -72,7 +73,7 @@ packing_view p = record {
   ssrc = p.ssrc;
   pt = p.pt;
   seq = p.seq;
-  tick = p.tick;
+  rate = rate_view p.rate;
   fields = p.fields;
 }
 

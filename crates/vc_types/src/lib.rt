@@ -12,10 +12,12 @@ mod parse_codes;
 mod plan;
 mod plane;
 mod profiles;
+mod rate;
 mod rect;
 mod refusal;
 mod settings;
 mod shape;
+mod stamps;
 mod video;
 mod words;
 
@@ -35,6 +37,7 @@ pub use parse_codes::{
 pub use plan::Plan;
 pub use plane::Plane;
 pub use profiles::{HIGH_QUALITY_PROFILE, LOW_DELAY_PROFILE};
+pub use rate::FrameRate;
 pub use rect::Rect;
 pub use refusal::{HeaderRefusal, ParamsRefusal, Short, Unsound};
 pub use settings::{GenSettings, PackSettings, SendSettings};

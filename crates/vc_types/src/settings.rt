@@ -4,6 +4,7 @@ ghost use Rattle.vc_types.specs.Limits.{slices_fit};
 ghost use Rattle.vc_types.specs.Settings.{within, choice_fits, luma_fits, first_picture_fits, can_be_sent};
 
 use crate::choice::IndexChoice;
+use crate::rate::FrameRate;
 use crate::video::Sampling;
 
 /// How frames are coded and sent. Width and height are those of a frame, `range` the number of its signal
@@ -31,8 +32,8 @@ pub struct SendSettings {
     pub seq: u32,
     /// The first picture number.
     pub picture: u32,
-    /// How far the timestamps of two frames are apart.
-    pub tick: u32,
+    /// How fast frames follow one another.
+    pub rate: FrameRate,
     /// The RTP payload type.
     pub pt: u8,
     pub ghost dimensions: { IsTrue (dimensions_fit width height sampling fields) },
@@ -77,8 +78,8 @@ pub struct PackSettings {
     pub pt: u8,
     /// The first extended sequence number.
     pub seq: u32,
-    /// How far the timestamps of two frames are apart.
-    pub tick: u32,
+    /// How fast frames follow one another.
+    pub rate: FrameRate,
     pub fields: bool,
     pub ghost size_fits: { IsTrue (within 64 65507 size) },
     pub ghost payload_type: { pt ≤ 127 },

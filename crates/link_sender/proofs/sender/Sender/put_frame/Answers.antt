@@ -12,4 +12,4 @@ returns-clause-numbers g c =
     let empty : Outbox = record { alloc = sender.alloc; datagrams = c.new.result; sequence = sender.number } in
     let number = number_behind s (coded_frame_outgoing s sender.frame c.args.slices.now) empty c.put_pictures.new.outbox c.new.ensures.items c.in_ok-put_pictures.ensures in
     let time = last_timestamp s sender.frame c.timestamp-self.result c.timestamp-self.ensures in
-    λ i. record { frame = (sender.frame + 1) % 2 ^ 32; number = number i; timestamp = time i }
+    λ i. record { frame = (sender.frame + 1) % 2 ^ 63; number = number i; timestamp = time i }
