@@ -1,12 +1,12 @@
 -- What a wire gave to a command that listens at an address, and where hearing it ends.
-use Rattle.std.specs.Prelude.{◌≡◌, ◌⊎◌, ◌≤◌, ◌<◌, ℕ, List, [], length, take, Option, Some}
+use Rattle.std.specs.Prelude.{◌≡◌, ◌⊎◌, ◌≤◌, ◌<◌, ℕ, List, [], length, take, Option}
 use Rattle.link_outside.specs.Passing.{Passes}
 use Rattle.link_report.specs.declared.answer.Answer.{Answer}
 use Rattle.link_report.specs.declared.answer.Answer.TheVariants.{Drained}
 use Rattle.link_report.specs.declared.ending.Ending.TheVariants.{WireFailed}
 use Rattle.link_report.specs.declared.summary.Summary.{Summary}
 use Rattle.vc_ports.specs.Changes.{WireChange, Stays}
-use Rattle.vc_ports.specs.Wires.{listening}
+use Rattle.vc_ports.specs.Wires.{IsOver, listening}
 use Rattle.link_hearing.specs.Sessions.{ended_sessions}
 
 -- ---- what it gave
@@ -26,11 +26,11 @@ pub record EndsSessions (sessions : ℕ) (heard : List (List ℕ)) : Type 0 wher
   pub reached : ended_sessions heard ≡ sessions
   pub no_sooner : (k : ℕ) → k < length heard → ended_sessions (take k heard) < sessions
 
--- fewer datagrams came than were asked for, and nothing more will come
+-- fewer datagrams came than were asked for, and nothing more will come, where the wire tells
 pub record EndsEarly (packets : ℕ) (coming : Option (List (List ℕ))) (heard : List (List ℕ))
     : Type 0 where
   pub fewer : length heard < packets
-  pub nothing_more : coming ≡ Some []
+  pub nothing_more : IsOver coming
 
 -- the end of the session that was asked for came, or nothing more will come
 abbrev pub HeardToEnd : (packets sessions : ℕ) → WireChange → List (List ℕ) → Type 0

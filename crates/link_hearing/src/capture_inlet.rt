@@ -40,6 +40,8 @@ impl<'a, S: Source> Inlet for CaptureInlet<'a, S> {
         }
     }
 
+    fn note(&mut self, _was_of_use: bool) {}
+
     ghost none = { λ x. (refl, none_read _ _ _) };
 
     ghost more = { λ x y z first second a b.

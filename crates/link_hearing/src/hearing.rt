@@ -28,7 +28,10 @@ pub fn hear_all<I: Inlet, L: Listener>(
             return Ok(());
         }
         match inlet.next()? {
-            Some(datagram) => listener.hear(datagram)?,
+            Some(datagram) => {
+                let was_of_use = listener.hear(datagram)?;
+                inlet.note(was_of_use);
+            }
             None => return Ok(()),
         }
     }

@@ -23,6 +23,11 @@ pub trait Inlet {
         ensures ready { (more : ℕ) → is_ready self.old (more + 1) → OnOk result (is_ready self.new more) }
         ensures brings { Brings (came self.old self.new) (stopped self.old self.new []) result };
 
+    /// Is told whether the datagram that came last was of use.
+    fn note(&mut self, was_of_use: bool)
+        ensures ready { (more : ℕ) → is_ready self.old more → is_ready self.new more }
+        ensures none { came self.old self.new [] };
+
     // Nothing came where it is as it was.
     ghost none: { (x : Self) → came x x [] };
 

@@ -43,6 +43,8 @@ impl<'a, S: Source> Inlet for PcapInlet<'a, S> {
         }
     }
 
+    fn note(&mut self, _was_of_use: bool) {}
+
     ghost none = { λ x. (refl, none_brought _) };
 
     ghost more = { λ x y z first second a b.

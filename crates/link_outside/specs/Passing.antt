@@ -1,7 +1,7 @@
 -- What several calls of a wire make of what it tells.
-use Rattle.std.specs.Prelude.{◌≡◌, ℕ, Bool, if◌then◌else◌, List, [], ◌∷◌, ◌++◌, Option, Some, Result, Ok, Err}
+use Rattle.std.specs.Prelude.{◌≡◌, ℕ, Bool, if◌then◌else◌, List, [], ◌∷◌, ◌++◌, Option, Result, Ok, Err}
 use Rattle.std.specs.Option.{option_map}
-use Rattle.vc_ports.specs.Wires.{WireTold}
+use Rattle.vc_ports.specs.Wires.{WireTold, IsOver}
 use Rattle.vc_types.specs.declared.memory.NoMemory.{NoMemory}
 use Rattle.link_outside.specs.declared.inbox.Arrived.{Arrived}
 use Rattle.link_outside.specs.declared.inbox.Arrived.TheVariants.{Datagram, End, Failed}
@@ -34,7 +34,7 @@ pub record Passes (before after : WireTold) (sent given : List (List ℕ)) : Typ
 -- what a receive did, by what arrived; a datagram for which there was no memory was given too
 abbrev pub Arrives : WireTold → WireTold → Result Arrived NoMemory → Type 0
 Arrives before after (Ok (Datagram datagram)) = Passes before after [] (datagram ∷ [])
--- only a wire that tells what will come ends
-Arrives before after (Ok End) = (before.coming ≡ Some []) × (after ≡ before)
+-- a wire that tells what will come ends where nothing will; one that doesn't may end
+Arrives before after (Ok End) = IsOver before.coming × (after ≡ before)
 Arrives before after (Ok Failed) = after ≡ before
 Arrives before after (Err no_memory) = (datagram : List ℕ) × Passes before after [] (datagram ∷ [])

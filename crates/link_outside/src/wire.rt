@@ -5,6 +5,7 @@ ghost use Rattle.link_outside.specs.Outlets.{SentAll, SentPart};
 ghost use Rattle.vc_ports.specs.Changes.{wire_of};
 
 use crate::outlet::{Outlet, OutletFault};
+use crate::wire_calls::send;
 use vc_ports::{Reached, Wire};
 
 /// Sends datagrams to a wire. It keeps the wire borrowed.
@@ -32,7 +33,7 @@ impl<'a, N: Wire> Outlet for WireOutlet<'a, N> {
         × SentPart (wire_of N.told N.faults x.wire.now y.wire.now) datagrams fault };
 
     fn put(&mut self, datagram: &[u8]) -> Result<(), OutletFault> {
-        match self.wire.send(datagram) {
+        match send(self.wire, datagram) {
             Reached::Yes => Ok(()),
             Reached::Failed => Err(OutletFault::Wire),
         }

@@ -8,6 +8,8 @@ use Rattle.vc_ports.specs.declared.wire.Came.{Came}
 use Rattle.vc_ports.specs.declared.wire.Came.TheVariants as came
 use Rattle.vc_ports.specs.declared.wire.Reached.{Reached}
 use Rattle.vc_ports.specs.declared.wire.Reached.TheVariants as reached
+use Rattle.vc_ports.specs.declared.wire.Sent.{Sent}
+use Rattle.vc_ports.specs.declared.wire.Sent.TheVariants as sent
 
 abbrev pub datagrams_in : {Z : Type 0} → List (Vec ℕ Z) → List (List ℕ)
 datagrams_in datagrams = map vec_items datagrams
@@ -94,9 +96,13 @@ memory_told w = record {
 abbrev pub room_of : List ℕ → ℕ
 room_of bytes = length bytes + 2
 
--- what a call answers that sends these bytes, or has this address
+-- what a call answers that has this address
 abbrev pub reach_answer : WireState → List ℕ → Reached
 reach_answer w bytes = if meter_refuses w.meter (room_of bytes) then reached.Failed else reached.Yes
+
+-- what a call answers that sends these bytes
+abbrev pub send_answer : WireState → List ℕ → Sent
+send_answer w bytes = if meter_refuses w.meter (room_of bytes) then sent.Failed else sent.Yes
 
 -- a list with one more at its end, unless a call fails
 abbrev pub longer : WireState → List ℕ → List (List ℕ) → List (List ℕ)

@@ -1,11 +1,13 @@
 -- What a wire tells, and what each of its calls makes of that.
-use Rattle.std.specs.Prelude.{◌≡◌, ℕ, ◌≤◌, Bool, true, if◌then◌else◌, List, [], ◌∷◌, ◌++◌, length, take, drop}
-use Rattle.std.specs.Prelude.{Option, Some, IfSome}
+use Rattle.std.specs.Prelude.{◌≡◌, ℕ, ◌≤◌, Bool, true, false, if◌then◌else◌, List, [], ◌∷◌, ◌++◌}
+use Rattle.std.specs.Prelude.{length, take, drop, Option, None, IfSome}
 use Rattle.std.specs.Option.{option_map}
 use Rattle.vc_ports.specs.declared.wire.Came.{Came}
 use Rattle.vc_ports.specs.declared.wire.Came.TheVariants as came
 use Rattle.vc_ports.specs.declared.wire.Reached.{Reached}
 use Rattle.vc_ports.specs.declared.wire.Reached.TheVariants as reached
+use Rattle.vc_ports.specs.declared.wire.Sent.{Sent}
+use Rattle.vc_ports.specs.declared.wire.Sent.TheVariants as sent
 
 -- The datagrams that will come, those that were given and those that were sent, and the addresses
 -- at which it listens and to which it is aimed: each list where the wire tells it. Whether what is
@@ -19,6 +21,19 @@ pub record WireTold : Type 0 where
   pub looped : Bool
   pub listens : Bool
   pub aimed : Bool
+
+-- a wire that tells none of its lists
+abbrev pub untold : (listens aimed : Bool) → WireTold
+untold listens aimed = record {
+  coming = None;
+  given = None;
+  sent = None;
+  at = None;
+  to = None;
+  looped = false;
+  listens = listens;
+  aimed = aimed;
+}
 
 -- a list that is told, with one more at its end
 abbrev pub grown : Option (List (List ℕ)) → List ℕ → Option (List (List ℕ))
@@ -49,6 +64,21 @@ abbrev pub Reaches : WireTold → WireTold → WireTold → Reached → Type 0
 Reaches before next after reached.Yes = after ≡ next
 Reaches before next after reached.Failed = after ≡ before
 
+-- the wire tells neither what is sent nor what will come
+pub record TellsNothing (told : WireTold) : Type 0 where
+  pub sent : told.sent ≡ None
+  pub coming : told.coming ≡ None
+
+-- the datagram was sent, or nothing changed; only a wire that tells nothing may lose it
+abbrev pub Sends : WireTold → WireTold → List ℕ → Sent → Type 0
+Sends before after datagram sent.Yes = after ≡ sending before datagram
+Sends before after datagram sent.Lost = TellsNothing before × (after ≡ sending before datagram)
+Sends before after datagram sent.Failed = after ≡ before
+
+-- nothing more will come, where the wire tells
+abbrev pub IsOver : Option (List (List ℕ)) → Type 0
+IsOver coming = IfSome coming (λ datagrams. datagrams ≡ [])
+
 -- the datagram at the front of the buffer is the first of those that were to come
 pub record Receives (before after : WireTold) (datagram : List ℕ) : Type 0 where
   pub first : IfSome before.coming (λ coming. take 1 coming ≡ datagram ∷ [])
@@ -56,6 +86,6 @@ pub record Receives (before after : WireTold) (datagram : List ℕ) : Type 0 whe
 
 abbrev pub Comes : WireTold → WireTold → List ℕ → Came → Type 0
 Comes before after buf (came.Datagram n) = (n ≤ length buf) × Receives before after (take n buf)
--- only a wire that tells what will come ends
-Comes before after buf came.End = (before.coming ≡ Some []) × (after ≡ before)
+-- a wire that tells what will come ends where nothing will; one that doesn't may end
+Comes before after buf came.End = IsOver before.coming × (after ≡ before)
 Comes before after buf came.Failed = after ≡ before

@@ -2,13 +2,13 @@ ghost use Rattle.std.specs.Prelude.{◌≡◌, ◌≤◌, ◌∷◌, [], length,
 ghost use Rattle.std.specs.Prelude.{MatchOption, slice_get, None, Some};
 ghost use Rattle.vc_ports.specs.Faults.{HasCause};
 ghost use Rattle.vc_ports.specs.MemoryWires.{AreDatagrams, memory_told, reach_answer, listen_after};
-ghost use Rattle.vc_ports.specs.MemoryWires.{aim_after, send_after, recv_answer, recv_after};
-ghost use Rattle.vc_ports.specs.Wires.{Reaches, Comes, listening, aiming, sending};
+ghost use Rattle.vc_ports.specs.MemoryWires.{aim_after, send_answer, send_after, recv_answer, recv_after};
+ghost use Rattle.vc_ports.specs.Wires.{Reaches, Sends, Comes, listening, aiming};
 
 use crate::datagrams::{datagram_at, give};
 use crate::meter::Meter;
 use crate::store::Store;
-use crate::wire::{Came, Reached, Wire};
+use crate::wire::{Came, Reached, Sent, Wire};
 use std::alloc::Global;
 use std::marker::Model;
 use vc_types::NoMemory;
@@ -162,21 +162,27 @@ impl Wire for MemWire {
         Reached::Yes
     }
 
-    fn send(&mut self, datagram: &[u8]) -> Reached
+    fn send(&mut self, datagram: &[u8]) -> Sent
         requires size { length datagram.now ≤ 65507 }
-        ensures told { Reaches (memory_told self.old) (sending (memory_told self.old) datagram.now)
-            (memory_told self.new) result }
-        ensures cause { HasCause self.old.meter.faults self.new.meter.faults
-            (result ≡ Reached.Failed) }
-        ensures answer { result ≡ reach_answer self.old datagram.now }
+        ensures told { Sends (memory_told self.old) (memory_told self.new) datagram.now result }
+        ensures cause { HasCause self.old.meter.faults self.new.meter.faults (result ≡ Sent.Failed) }
+        ensures answer { result ≡ send_answer self.old datagram.now }
         ensures state { self.new ≡ send_after self.old datagram.now }
     {
         if self.meter.refuses(datagram.len() + 2) {
-            return Reached::Failed;
+            return Sent::Failed;
         }
         self.sent.push(datagram);
-        Reached::Yes
+        Sent::Yes
     }
+
+    fn end_after(&mut self, _seconds: u32)
+        ensures { self.new ≡ self.old }
+    {}
+
+    fn keep(&mut self)
+        ensures { self.new ≡ self.old }
+    {}
 
     fn recv(&mut self, buf: &mut [u8]) -> Came
         requires room { length buf.old ≡ 65535 }

@@ -4,7 +4,7 @@ ghost use Rattle.vc_ports.specs.MemoryWires.{AreDatagrams, came_of, plain_told, 
 ghost use Rattle.vc_ports.specs.Wires.{Comes};
 
 use crate::datagrams::{datagram_at, give};
-use crate::wire::{Came, Reached, Wire};
+use crate::wire::{Came, Reached, Sent, Wire};
 use std::marker::Model;
 
 /// A wire in memory that never fails, and always listens and is aimed. It tells the datagrams that will come
@@ -72,12 +72,20 @@ impl Wire for PlainWire {
         Reached::Yes
     }
 
-    fn send(&mut self, _datagram: &[u8]) -> Reached
-        ensures answer { result ≡ Reached.Yes }
+    fn send(&mut self, _datagram: &[u8]) -> Sent
+        ensures answer { result ≡ Sent.Yes }
         ensures state { self.new ≡ self.old }
     {
-        Reached::Yes
+        Sent::Yes
     }
+
+    fn end_after(&mut self, _seconds: u32)
+        ensures { self.new ≡ self.old }
+    {}
+
+    fn keep(&mut self)
+        ensures { self.new ≡ self.old }
+    {}
 
     fn recv(&mut self, buf: &mut [u8]) -> Came
         requires room { length buf.old ≡ 65535 }

@@ -1,11 +1,21 @@
 ghost use Rattle.std.specs.Prelude.{◌≡◌, ◌≤◌, ℕ, IsTrue, length};
 ghost use Rattle.vc_ports.specs.Faults.{HasCause};
-ghost use Rattle.vc_ports.specs.Wires.{WireTold, Reaches, Comes, listening, aiming, sending};
+ghost use Rattle.vc_ports.specs.Wires.{WireTold, Reaches, Sends, Comes, listening, aiming};
 
 /// What a call that gives nothing back came to.
 #[derive(Clone, Copy)]
 pub enum Reached {
     Yes,
+    /// The call failed, and changed nothing.
+    Failed,
+}
+
+/// What became of a datagram that is to be sent.
+#[derive(Clone, Copy)]
+pub enum Sent {
+    Yes,
+    /// The network refused it for now: it is lost, as any may be on its way, and the next one may go out.
+    Lost,
     /// The call failed, and changed nothing.
     Failed,
 }
@@ -42,12 +52,22 @@ pub trait Wire {
         ensures cause { HasCause (faults self.old) (faults self.new) (result ≡ Reached.Failed) };
 
     /// Sends a datagram.
-    fn send(&mut self, datagram: &[u8]) -> Reached
+    fn send(&mut self, datagram: &[u8]) -> Sent
         requires aimed { IsTrue (told self.old).aimed }
         requires size { length datagram.now ≤ 65507 }
-        ensures told { Reaches (told self.old) (sending (told self.old) datagram.now)
-            (told self.new) result }
-        ensures cause { HasCause (faults self.old) (faults self.new) (result ≡ Reached.Failed) };
+        ensures told { Sends (told self.old) (told self.new) datagram.now result }
+        ensures cause { HasCause (faults self.old) (faults self.new) (result ≡ Sent.Failed) };
+
+    /// A wire that tells nothing may end from now on, once no datagram has come for so many seconds that was
+    /// kept. 0: it never ends.
+    fn end_after(&mut self, seconds: u32)
+        ensures told { told self.new ≡ told self.old }
+        ensures faults { faults self.new ≡ faults self.old };
+
+    /// The datagram that came last was kept.
+    fn keep(&mut self)
+        ensures told { told self.new ≡ told self.old }
+        ensures faults { faults self.new ≡ faults self.old };
 
     /// Receives a datagram into the front of a buffer that has room for any.
     fn recv(&mut self, buf: &mut [u8]) -> Came
