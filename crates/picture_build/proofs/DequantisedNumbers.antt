@@ -17,12 +17,11 @@ use Rattle.vc_slice.specs.declared.bands.SliceBands.{SliceBands}
 use Rattle.vc_slice.specs.Bands.{band_count, coefficient_count, coefficients_of_block, quantisers_of, rectangle}
 use Rattle.vc_slice.specs.Numbers.{AreBlockNumbers}
 use Rattle.vc_slice.proofs.NarrowRuns as runs
-use Rattle.picture_build.specs.PartsKept.{ChangesPart, FillsPart, place_kept}
+use Rattle.picture_build.specs.PartsKept.{FillsPart, PutsCoefficients, numbered_in}
 
 module _ (bands : SliceBands) (c : Component) (numbers : List ℤ) where
-  -- coefficient i
-  abbrev pub coefficient : ℕ → ℤ
-  coefficient i = dequantised (line_of numbers i) (slice_index_or (quantisers_of bands c) i 0)
+  abbrev coefficient : ℕ → ℤ
+  coefficient = numbered_in bands c numbers
 
   module _ (b from q : ℕ) (r : Rect) (inside : b < band_count bands.parts.now) (is : r ≡ rectangle bands.parts.now c b) (at : from ≡ coefficients_before (parameters_of bands.parts.now.plan) c bands.parts.now.slice b)
       (own : q ≡ bands.index - slice_index_or bands.parts.now.plan.matrix b 0) where
@@ -47,25 +46,21 @@ module _ (bands : SliceBands) (c : Component) (numbers : List ℤ) where
 -- ---- the numbers of a block
 
 module _ (bands : SliceBands) (c : Component) (block : List ℕ) (numbers old new : List ℤ) (read : AreBlockNumbers (coefficient_count bands.parts.now c) block numbers) where
-  -- the cells of the slice hold the coefficients
-  abbrev pub Stand : Type 0
-  Stand = (i : ℕ) → i < coefficient_count bands.parts.now c → line_of new (place_kept bands.parts.now c i) ≡ coefficient bands c numbers i
+  -- the coefficients are put
+  abbrev pub ArePut : Type 0
+  ArePut = PutsCoefficients bands c (numbered_in bands c numbers) old new
 
-  -- and no large one
-  abbrev pub AreNarrow : Type 0
-  AreNarrow = (i : ℕ) → i < coefficient_count bands.parts.now c → unsigned_abs (line_of new (place_kept bands.parts.now c i)) < 2 ^ 29
-
-  placed : Stand → (i : ℕ) → i < coefficient_count bands.parts.now c → line_of new (place_kept bands.parts.now c i) ≡ line_of (coefficients_of_block bands c block) i
-  placed on i h =
-      on i h ∙ ap (λ z. dequantised z (slice_index_or (quantisers_of bands c) i 0)) (read i h)
+  in_block : (i : ℕ) → i < coefficient_count bands.parts.now c → numbered_in bands c numbers i ≡ line_of (coefficients_of_block bands c block) i
+  in_block i h =
+      ap (λ z. dequantised z (slice_index_or (quantisers_of bands c) i 0)) (read i h)
       ∙ sym (runs.coefficient_of (parameters_of bands.parts.now.plan) c bands.parts.now.slice bands.index block i h)
 
-  pub filled : {E : Type 0} (done : Result (Unit {0}) E) → ChangesPart bands.parts.now c old new → OnOk done Stand → OnOk done (FillsPart bands.parts.now c (coefficients_of_block bands c block) old new)
-  filled (Ok all) only on = record { only = only; own = placed on }
-  filled (Err e) only on = on
+  pub filled : {E : Type 0} (done : Result (Unit {0}) E) → OnOk done ArePut → OnOk done (FillsPart bands.parts.now c (coefficients_of_block bands c block) old new)
+  filled (Ok all) puts = record { only = puts.only; own = λ i h. puts.on i h ∙ in_block i h }
+  filled (Err e) puts = puts
 
-  pub sound : {E : Type 0} (done : Result (Unit {0}) E) → OnOk done Stand → OnOk done AreNarrow → OnOk done (list_any is_large (coefficients_of_block bands c block) ≡ false)
-  sound (Ok all) on narrow =
+  pub sound : {E : Type 0} (done : Result (Unit {0}) E) → OnOk done ArePut → OnOk done (list_any is_large (coefficients_of_block bands c block) ≡ false)
+  sound (Ok all) puts =
       let zs = coefficients_of_block bands c block in
-      runs.none_large zs zs (coefficient_count bands.parts.now c) (runs.length-block (parameters_of bands.parts.now.plan) c bands.parts.now.slice bands.index block) (λ i h. refl) (λ i h. subst (λ z. unsigned_abs z < 2 ^ 29) (placed on i h) (narrow i h))
-  sound (Err e) on narrow = on
+      runs.none_large zs zs (coefficient_count bands.parts.now c) (runs.length-block (parameters_of bands.parts.now.plan) c bands.parts.now.slice bands.index block) (λ i h. refl) (λ i h. subst (λ z. unsigned_abs z < 2 ^ 29) (in_block i h) (puts.narrow i h))
+  sound (Err e) puts = puts

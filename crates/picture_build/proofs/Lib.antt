@@ -19,5 +19,6 @@ pub mod KeptSlices
 pub mod InCells
 pub mod SeenSlices
 pub mod DequantisedNumbers
+pub mod ClearedParts
 pub mod FilledSlices
 pub mod NarrowPlanes

@@ -11,7 +11,7 @@ ghost use Rattle.picture_build.specs.Puts.{Puts};
 
 use crate::cells::CoefficientCells;
 use crate::filling::{fill_slice, parts_of, put_blocks};
-use crate::finishing::{AtOnce, InTurn, PictureCells, Transform};
+use crate::finishing::{PictureCells, Rooms, planes_at_once, planes_in_turn};
 use crate::sizes::{cell_count, most_coefficients};
 use std::alloc::Global;
 use std::marker::Model;
@@ -42,9 +42,8 @@ pub struct PictureBuilder {
     c2: CoefficientCells,
     // The coefficients of a component of the slice that is coming.
     numbers: Vec<i32>,
-    // Room for the samples of luma and of a colour component, kept from picture to picture.
-    luma: Vec<i32>,
-    colour: Vec<i32>,
+    // Room for the transform of each component, kept from picture to picture.
+    rooms: Rooms,
 }
 
 impl Model for PictureBuilder {
@@ -84,8 +83,7 @@ impl PictureBuilder {
             c1,
             c2,
             numbers,
-            luma: Vec::new(alloc),
-            colour: Vec::new(alloc),
+            rooms: Rooms::new(alloc),
         })
     }
 
@@ -171,23 +169,21 @@ impl PictureBuilder {
             ≡ planes_of self.old.parameters (slices_of self.old)) }
         ensures restarted { self.new ≡ no_slices self.old.parameters }
     {
-        self.planes_by(&InTurn)
+        let cells = PictureCells {
+            y: &self.y,
+            c1: &self.c1,
+            c2: &self.c2,
+        };
+        let planes = planes_in_turn(self.alloc, &self.plan, &cells, &mut self.rooms);
+        self.restart();
+        planes
     }
 
-    /// The same, where luma is transformed beside the colours, by join.
+    /// The same, where the components are transformed side by side, luma's highest level in two halves, by join.
     pub fn planes_joined<H: Threads + Copy + Send + Sync>(
         &mut self,
         rt: H,
     ) -> Result<[Plane; 3], NoMemory>
-        requires whole { HasAllSlices self.old }
-        ensures value { IfOk result (λ planes. planes_in planes
-            ≡ planes_of self.old.parameters (slices_of self.old)) }
-        ensures restarted { self.new ≡ no_slices self.old.parameters }
-    {
-        self.planes_by(&AtOnce { rt })
-    }
-
-    fn planes_by<T: Transform>(&mut self, transform: &T) -> Result<[Plane; 3], NoMemory>
         requires whole { HasAllSlices self.old }
         ensures value { IfOk result (λ planes. planes_in planes
             ≡ planes_of self.old.parameters (slices_of self.old)) }
@@ -198,17 +194,8 @@ impl PictureBuilder {
             c1: &self.c1,
             c2: &self.c2,
         };
-        let planes = transform.planes(
-            self.alloc,
-            &self.plan,
-            &cells,
-            &mut self.luma,
-            &mut self.colour,
-        );
-        self.came.fill(false);
-        self.y.restart();
-        self.c1.restart();
-        self.c2.restart();
+        let planes = planes_at_once(&rt, self.alloc, &self.plan, &cells, &mut self.rooms);
+        self.restart();
         planes
     }
 

@@ -1,16 +1,21 @@
 ghost use Rattle.std.specs.Prelude.{◌≡◌, ◌≢◌, ◌+◌, ◌*◌, ◌^◌, ◌<◌, ◌≤◌, ℕ, ℤ, pos};
-ghost use Rattle.std.specs.Prelude.{IfOk, IfSome, length, unsigned_abs};
+ghost use Rattle.std.specs.Prelude.{IfOk, IfSome, OnOk, length, unsigned_abs};
 ghost use Rattle.vc_types.specs.Lifting.{line_of};
 ghost use Rattle.vc_types.specs.Subbands.{area};
 ghost use Rattle.picture_build.specs.Cells.{whole_number};
-ghost use Rattle.picture_build.specs.CellRects.{ChangesRect, ChangesRow, HasRow, LiesIn};
-ghost use Rattle.picture_build.specs.CellRects.{cell_in, coefficient_of};
+ghost use Rattle.vc_slice.specs.Bands.{coefficient_count};
+ghost use Rattle.vc_slice.specs.Numbers.{AreUpTo};
+ghost use Rattle.picture_build.specs.CellRects.{ChangesRect, ChangesRow, HasRow, LiesIn, cell_in};
+ghost use Rattle.picture_build.specs.PartsKept.{AreCells, ChangesPart, PutsCoefficients};
+ghost use Rattle.picture_build.specs.PartsKept.{numbered_in, place_kept};
 
 use crate::cell_rect::CellRect;
-use crate::dequantising::{QuantisedNumbers, dequantise_rect};
+use crate::dequantising::put_dequantised;
 use std::alloc::Global;
 use std::marker::Model;
-use vc_types::NoMemory;
+use vc_geometry::{bands as band_count, padded};
+use vc_slice::{SliceBands, SliceParts, TooWide};
+use vc_types::{Component, NoMemory};
 
 // What one in the high part of a cell counts.
 const HIGH: i64 = 1 << 30;
@@ -79,22 +84,28 @@ impl CoefficientCells {
         }
     }
 
-    /// Puts the coefficients that numbers stand for, from one number on, into a rectangle of cells, row by
-    /// row.
-    pub(crate) fn put_rect(&mut self, to: &CellRect, quantised: QuantisedNumbers<'_>, from: usize)
-        requires cells { LiesIn to.now self.old }
-        requires from { from + area to.now.rect ≤ length quantised.numbers.now }
-        requires small { (j : ℕ) → j < area to.now.rect
-            → unsigned_abs (line_of quantised.numbers.now (from + j)) ≤ quantised.quantiser.now.greatest }
-        ensures on { (j : ℕ) → j < area to.now.rect
-            → line_of self.new (cell_in to.now j) ≡ coefficient_of quantised.entry (from + j) }
-        ensures off { ChangesRect to.now self.old self.new }
-        ensures length { length self.new ≡ length self.old }
+    /// Puts the coefficients that a component's numbers stand for at their places: `greatest` is at least each
+    /// number's magnitude. TooWide where a coefficient may not fit 32 bits; cells of the slice hold anything
+    /// then.
+    pub(crate) fn put_numbers(
+        &mut self,
+        bands: &SliceBands,
+        c: Component,
+        numbers: &[i32],
+        greatest: u32,
+    ) -> Result<(), TooWide>
+        requires count { coefficient_count bands.now.parts.now c ≤ length numbers.now }
+        requires small { AreUpTo greatest (coefficient_count bands.now.parts.now c) numbers.now }
+        requires cells { AreCells bands.now.parts.now c self.old }
+        ensures only { ChangesPart bands.now.parts.now c self.old self.new }
+        ensures all { OnOk result (PutsCoefficients bands.now c (numbered_in bands.now c numbers.now)
+            self.old self.new) }
     {
-        dequantise_rect(&mut self.low, to, quantised, from);
+        let done = put_dequantised(bands, c, numbers, greatest, &mut self.low);
         if self.is_wide {
-            clear_rect(&mut self.high, to);
+            clear_part(&mut self.high, bands.parts, c);
         }
+        done
     }
 
     /// The number in a cell.
@@ -212,5 +223,23 @@ fn clear_rect(cells: &mut [i32], to: &CellRect)
     for row in 0..to.rect.height as usize {
         let at = (to.rect.y as usize + row) * to.stride + to.rect.x as usize;
         clear_row(cells, at, to.rect.width as usize);
+    }
+}
+
+// Clears the cells of a slice.
+fn clear_part(cells: &mut [i32], parts: &SliceParts, c: Component)
+    requires { AreCells parts.now c cells.old }
+    ensures on { (i : ℕ) → i < coefficient_count parts.now c
+        → line_of cells.new (place_kept parts.now c i) ≡ pos 0 }
+    ensures only { ChangesPart parts.now c cells.old cells.new }
+{
+    let (width, _) = padded(&parts.plan, c);
+    for b in 0..band_count(&parts.plan) {
+        let rect = parts.rect(c, b);
+        let to = CellRect {
+            rect,
+            stride: width as usize,
+        };
+        clear_rect(cells, &to);
     }
 }

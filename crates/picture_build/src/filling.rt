@@ -1,16 +1,14 @@
 ghost use Rattle.std.specs.Prelude.{◌≡◌, ◌≢◌, ◌+◌, ◌*◌, ◌^◌, ◌<◌, ◌≤◌, ℕ, length, true, false};
-ghost use Rattle.std.specs.Prelude.{slice_index_or, unsigned_abs, Some, Ok, OnOk};
+ghost use Rattle.std.specs.Prelude.{unsigned_abs, Some, Ok, OnOk};
 ghost use Rattle.std.specs.List.{list_any};
 ghost use Rattle.vc_types.specs.declared.video.Component.{Component};
 ghost use Rattle.vc_types.specs.declared.video.Component.TheVariants.{Y, C1, C2};
 ghost use Rattle.vc_types.specs.Lifting.{line_of};
 ghost use Rattle.vc_types.specs.Slices.{coefficients_of, decoded_slice, in_range, is_large, slice_length};
-ghost use Rattle.vc_types.specs.Quantisation.{dequantised};
 ghost use Rattle.vc_types.specs.Subbands.{area};
 ghost use Rattle.vc_types.specs.TransformParameters.{parameters_of};
-ghost use Rattle.vc_slice.specs.Bands.{coefficient_count, coefficients_of_block, quantisers_of};
+ghost use Rattle.vc_slice.specs.Bands.{coefficient_count, coefficients_of_block};
 ghost use Rattle.vc_slice.specs.Coded.{coded_of};
-ghost use Rattle.vc_slice.specs.Numbers.{AreUpTo};
 ghost use Rattle.picture_build.specs.CellRects.{ChangesRect, LiesIn, cell_in};
 ghost use Rattle.picture_build.specs.Kept.{ChangesOnly, FillsSlice};
 ghost use Rattle.picture_build.specs.PartsKept.{place_kept, AreCells, ChangesPart, FillsPart};
@@ -19,7 +17,6 @@ ghost use Rattle.vc_types.specs.OfPlan.{slice_coefficient_count, slice_coefficie
 
 use crate::cell_rect::CellRect;
 use crate::cells::CoefficientCells;
-use crate::dequantising::QuantisedNumbers;
 use vc_geometry::{bands as band_count, padded, place_of, slice_len};
 use vc_slice::{
     CodedSlice, CoefficientList, SliceBands, SliceCoeffs, SliceParts, TooWide, coded_slice,
@@ -168,49 +165,7 @@ fn put_block(
         (list_any is_large (coefficients_of_block bands.now c block.now) ≡ false) }
 {
     let greatest = read_numbers(bands, c, block, numbers)?;
-    dequantise_numbers(bands, c, numbers, greatest, cells)
-}
-
-// Puts the coefficients that a block's numbers stand for at their places. Where one may be too wide, only
-// cells of this slice were changed.
-fn dequantise_numbers(
-    bands: &SliceBands,
-    c: Component,
-    numbers: &[i32],
-    greatest: u32,
-    cells: &mut CoefficientCells,
-) -> Result<(), TooWide>
-    requires count { coefficient_count bands.now.parts.now c ≤ length numbers.now }
-    requires small { AreUpTo greatest (coefficient_count bands.now.parts.now c) numbers.now }
-    requires cells { AreCells bands.now.parts.now c cells.old }
-    ensures on { OnOk result ((i : ℕ) → i < coefficient_count bands.now.parts.now c
-        → line_of cells.new (place_kept bands.now.parts.now c i)
-        ≡ dequantised (line_of numbers.now i) (slice_index_or (quantisers_of bands.now c) i 0)) }
-    ensures narrow { OnOk result ((i : ℕ) → i < coefficient_count bands.now.parts.now c
-        → unsigned_abs (line_of cells.new (place_kept bands.now.parts.now c i)) < 2 ^ 29) }
-    ensures off { (k : ℕ) → ((i : ℕ) → i < coefficient_count bands.now.parts.now c
-        → k ≢ place_kept bands.now.parts.now c i) → line_of cells.new k ≡ line_of cells.old k }
-    ensures length { length cells.new ≡ length cells.old }
-{
-    let (width, _) = padded(&bands.parts.plan, c);
-    let mut from = 0;
-    for b in 0..band_count(&bands.parts.plan) {
-        let rect = bands.parts.rect(c, b);
-        let Some(quantiser) = bands.quantiser(b).narrow(greatest) else {
-            return Err(TooWide);
-        };
-        let to = CellRect {
-            rect,
-            stride: width as usize,
-        };
-        let quantised = QuantisedNumbers {
-            numbers,
-            quantiser: &quantiser,
-        };
-        cells.put_rect(&to, quantised, from);
-        from += rect.width as usize * rect.height as usize;
-    }
-    Ok(())
+    cells.put_numbers(bands, c, numbers, greatest)
 }
 
 // Copies coefficients to 32 bits each, as long as they fit.

@@ -8,7 +8,7 @@ ghost use Rattle.picture_build.specs.OfPlan.{ArePlanesOf, HoldsComponent, IsPlan
 ghost use Rattle.vc_types.specs.OfPlan.{padded_height, padded_width};
 
 use crate::cells::CoefficientCells;
-use crate::narrow::narrow_plane;
+use crate::narrow::{narrow_plane, narrow_plane_joined};
 use crate::output::output;
 use std::alloc::Global;
 use std::thread::{Threads, join_mut};
@@ -24,74 +24,80 @@ pub(crate) struct PictureCells<'a> {
     pub(crate) c2: &'a CoefficientCells,
 }
 
-/// How the three components of a picture are transformed. Luma and colour have lists to work in, which are
-/// made where they haven't the length that a component's transform needs.
-pub(crate) trait Transform {
-    /// The planes of a picture.
-    fn planes(
-        &self,
-        alloc: Global,
-        plan: &Plan,
-        cells: &PictureCells<'_>,
-        luma: &mut Vec<i32>,
-        colour: &mut Vec<i32>,
-    ) -> Result<[Plane; 3], NoMemory>
-        requires { (slices : List Coefficients) × AllAreIn (parameters_of plan.now) slices
-            cells.now.y.now cells.now.c1.now cells.now.c2.now }
-        ensures { IfOk result (λ planes. ArePlanesOf plan.now
-            cells.now.y.now cells.now.c1.now cells.now.c2.now (planes_in planes)) };
+/// Lists to work in for each component. One that hasn't the length that the component's transform needs is
+/// replaced.
+#[derive(Drop)]
+pub(crate) struct Rooms {
+    pub(crate) y: Vec<i32>,
+    pub(crate) c1: Vec<i32>,
+    pub(crate) c2: Vec<i32>,
 }
 
-/// One component after another.
-#[derive(Drop)]
-pub(crate) struct InTurn;
-
-impl Transform for InTurn {
-    fn planes(
-        &self,
-        alloc: Global,
-        plan: &Plan,
-        cells: &PictureCells<'_>,
-        luma: &mut Vec<i32>,
-        colour: &mut Vec<i32>,
-    ) -> Result<[Plane; 3], NoMemory> {
-        let y = component(alloc, plan, Component::Y, cells.y, luma)?;
-        let c1 = component(alloc, plan, Component::C1, cells.c1, colour)?;
-        let c2 = component(alloc, plan, Component::C2, cells.c2, colour)?;
-        Ok([y, c1, c2])
+impl Rooms {
+    /// Lists that have no memory yet.
+    pub(crate) fn new(alloc: Global) -> Rooms {
+        Rooms {
+            y: Vec::new(alloc),
+            c1: Vec::new(alloc),
+            c2: Vec::new(alloc),
+        }
     }
 }
 
-/// Luma beside the colours, by join.
-#[derive(Drop)]
-pub(crate) struct AtOnce<H> {
-    pub(crate) rt: H,
+/// The planes of a picture, one component after another.
+pub(crate) fn planes_in_turn(
+    alloc: Global,
+    plan: &Plan,
+    cells: &PictureCells<'_>,
+    rooms: &mut Rooms,
+) -> Result<[Plane; 3], NoMemory>
+    requires { (slices : List Coefficients) × AllAreIn (parameters_of plan.now) slices
+        cells.now.y.now cells.now.c1.now cells.now.c2.now }
+    ensures { IfOk result (λ planes. ArePlanesOf plan.now
+        cells.now.y.now cells.now.c1.now cells.now.c2.now (planes_in planes)) }
+{
+    let y = component(alloc, plan, Component::Y, cells.y, &mut rooms.y)?;
+    let c1 = component(alloc, plan, Component::C1, cells.c1, &mut rooms.c1)?;
+    let c2 = component(alloc, plan, Component::C2, cells.c2, &mut rooms.c1)?;
+    Ok([y, c1, c2])
 }
 
-impl<H: Threads + Copy + Send + Sync> Transform for AtOnce<H> {
-    fn planes(
-        &self,
-        alloc: Global,
-        plan: &Plan,
-        cells: &PictureCells<'_>,
-        luma: &mut Vec<i32>,
-        colour: &mut Vec<i32>,
-    ) -> Result<[Plane; 3], NoMemory> {
-        let (y, (c1, c2)) = joined(&self.rt, alloc, plan, cells, luma, colour);
-        Ok([y?, c1?, c2?])
-    }
+/// The same, luma beside the colours, by join, and its highest level in two halves side by side.
+pub(crate) fn planes_at_once<H: Threads + Sync>(
+    rt: &H,
+    alloc: Global,
+    plan: &Plan,
+    cells: &PictureCells<'_>,
+    rooms: &mut Rooms,
+) -> Result<[Plane; 3], NoMemory>
+    requires { (slices : List Coefficients) × AllAreIn (parameters_of plan.now) slices
+        cells.now.y.now cells.now.c1.now cells.now.c2.now }
+    ensures { IfOk result (λ planes. ArePlanesOf plan.now
+        cells.now.y.now cells.now.c1.now cells.now.c2.now (planes_in planes)) }
+{
+    let (y, (c1, c2)) = joined(
+        rt,
+        alloc,
+        plan,
+        cells,
+        &mut rooms.y,
+        &mut rooms.c1,
+        &mut rooms.c2,
+    );
+    Ok([y?, c1?, c2?])
 }
 
 type Answer = Result<Plane, NoMemory>;
 
 // The planes of the three components, luma's beside the colours'.
-fn joined<H: Threads>(
+fn joined<H: Threads + Sync>(
     rt: &H,
     alloc: Global,
     plan: &Plan,
     cells: &PictureCells<'_>,
     luma: &mut Vec<i32>,
-    colour: &mut Vec<i32>,
+    first: &mut Vec<i32>,
+    second: &mut Vec<i32>,
 ) -> (Answer, (Answer, Answer))
     requires { (slices : List Coefficients) × AllAreIn (parameters_of plan.now) slices
         cells.now.y.now cells.now.c1.now cells.now.c2.now }
@@ -101,17 +107,19 @@ fn joined<H: Threads>(
 {
     join_mut(
         rt,
-        &mut || component(alloc, plan, Component::Y, cells.y, luma),
-        &mut || colours(alloc, plan, cells, colour),
+        &mut || component_joined(rt, alloc, plan, Component::Y, cells.y, luma),
+        &mut || colours(rt, alloc, plan, cells, first, second),
     )
 }
 
-// The planes of both colour components, one after another.
-fn colours(
+// The planes of both colour components, side by side.
+fn colours<H: Threads>(
+    rt: &H,
     alloc: Global,
     plan: &Plan,
     cells: &PictureCells<'_>,
-    work: &mut Vec<i32>,
+    first: &mut Vec<i32>,
+    second: &mut Vec<i32>,
 ) -> (Answer, Answer)
     requires { (slices : List Coefficients)
         × AreIn (parameters_of plan.now) C1 slices cells.now.c1.now
@@ -119,9 +127,10 @@ fn colours(
     ensures c1 { IfOk result.0 (λ plane. IsPlaneOf plan.now C1 cells.now.c1.now plane) }
     ensures c2 { IfOk result.1 (λ plane. IsPlaneOf plan.now C2 cells.now.c2.now plane) }
 {
-    (
-        component(alloc, plan, Component::C1, cells.c1, work),
-        component(alloc, plan, Component::C2, cells.c2, work),
+    join_mut(
+        rt,
+        &mut || component(alloc, plan, Component::C1, cells.c1, first),
+        &mut || component(alloc, plan, Component::C2, cells.c2, second),
     )
 }
 
@@ -137,6 +146,24 @@ fn component(
     ensures value { IfOk result (λ plane. IsPlaneOf plan.now c cells.now plane) }
 {
     match narrow_plane(alloc, plan, c, cells, work)? {
+        Some(plane) => Ok(plane),
+        None => wide_component(alloc, plan, c, cells),
+    }
+}
+
+// The same, with the highest level in two halves side by side.
+fn component_joined<H: Threads>(
+    rt: &H,
+    alloc: Global,
+    plan: &Plan,
+    c: Component,
+    cells: &CoefficientCells,
+    work: &mut Vec<i32>,
+) -> Result<Plane, NoMemory>
+    requires whole { HoldsComponent plan.now c cells.now }
+    ensures value { IfOk result (λ plane. IsPlaneOf plan.now c cells.now plane) }
+{
+    match narrow_plane_joined(rt, alloc, plan, c, cells, work)? {
         Some(plane) => Ok(plane),
         None => wide_component(alloc, plan, c, cells),
     }

@@ -16,5 +16,6 @@ mod sizes;
 
 pub use builder::{NotPut, PictureBuilder};
 pub use building::{build, build_joined};
+pub use dequantising::put_dequantised;
 pub use laws::{fields_can_be_woven, planes_have_their_shape};
 pub use narrow::nested_plane;

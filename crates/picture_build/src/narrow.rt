@@ -8,8 +8,9 @@ ghost use Rattle.vc_types.specs.OfPlan.{padded_height, padded_width};
 use crate::cells::CoefficientCells;
 use crate::output::format;
 use std::alloc::Global;
+use std::thread::Threads;
 use vc_types::{Component, NoMemory, Plan, Plane};
-use vc_wave::{Format, inverse_output, room_len};
+use vc_wave::{Format, inverse_output, inverse_output_joined, joined_room_len, room_len};
 
 /// The plane of a component, made in 32 bits; none where these may not be enough on the way. The list is
 /// room to work in: one of another length is replaced.
@@ -27,6 +28,26 @@ pub(crate) fn narrow_plane(
 {
     match cells.narrow() {
         Some(nested) => nested_plane(alloc, plan, c, nested, work),
+        None => Ok(None),
+    }
+}
+
+/// The same, with the highest level in two halves that are made side by side, by join.
+pub(crate) fn narrow_plane_joined<H: Threads>(
+    rt: &H,
+    alloc: Global,
+    plan: &Plan,
+    c: Component,
+    cells: &CoefficientCells,
+    work: &mut Vec<i32>,
+) -> Result<Option<Plane>, NoMemory>
+    requires { length cells.now ≡ padded_height plan.now c * padded_width plan.now c }
+    ensures { IfOk result (λ made. IfSome made (λ plane.
+        plane ≡ output_plane (parameters_of plan.now) c (inverse_transform (parameters_of plan.now)
+        c (plane_of (padded_width plan.now c) cells.now)))) }
+{
+    match cells.narrow() {
+        Some(nested) => nested_plane_joined(rt, alloc, plan, c, nested, work),
         None => Ok(None),
     }
 }
@@ -58,6 +79,38 @@ pub fn nested_plane(
     };
     let mut samples = vec![in alloc; 0u16; format.rows * format.columns]?;
     if inverse_output(plan, c, nested, work, &mut samples, format) {
+        Ok(Some(Plane::new(width, height, samples)))
+    } else {
+        Ok(None)
+    }
+}
+
+// The same of a list, with the highest level in two halves side by side.
+fn nested_plane_joined<H: Threads>(
+    rt: &H,
+    alloc: Global,
+    plan: &Plan,
+    c: Component,
+    nested: &[i32],
+    work: &mut Vec<i32>,
+) -> Result<Option<Plane>, NoMemory>
+    requires { length nested.now ≡ padded_height plan.now c * padded_width plan.now c }
+    ensures { IfOk result (λ made. IfSome made (λ plane.
+        plane ≡ output_plane (parameters_of plan.now) c (inverse_transform (parameters_of plan.now)
+        c (plane_of (padded_width plan.now c) nested.now)))) }
+{
+    let room = joined_room_len(plan, c);
+    if work.len() != room {
+        *work = vec![in alloc; 0i32; room]?;
+    }
+    let (width, height, depth) = format(plan, c);
+    let format = Format {
+        columns: width as usize,
+        rows: height as usize,
+        depth,
+    };
+    let mut samples = vec![in alloc; 0u16; format.rows * format.columns]?;
+    if inverse_output_joined(rt, plan, c, nested, work, &mut samples, format) {
         Ok(Some(Plane::new(width, height, samples)))
     } else {
         Ok(None)

@@ -6,7 +6,7 @@ use Rattle.std.proofs.lemmas.Nat.{mul-add-lt, same_from_place}
 use Rattle.vc_types.specs.Lifting.{line_of}
 use Rattle.vc_types.specs.Rasters.{Lattice}
 use Rattle.vc_types.specs.Transforms.{Cells}
-use Rattle.vc_lowdelay.specs.Bands.{AreSmall, Holds, number_in, prediction_in, value_in}
+use Rattle.vc_lowdelay.specs.Bands.{AreSmallValues, HasValues, number_in, prediction_in, value_in}
 use Rattle.vc_lowdelay.specs.LowDelay.{mean_of, first_row, next_row, grown_row, predicted}
 
 -- ---- each value grows by its prediction
@@ -35,7 +35,7 @@ module _ (cells : Cells) (w h : ℕ) where
     pub at : (a b : ℕ) → value_in band a b ≡ line_of band.cells (b * w + a)
     at a b = ap (λ (n : ℕ). line_of band.cells (b * n + a)) to.width
 
-    pub are_small : AreSmall band
+    pub are_small : AreSmallValues band
     are_small a b ha hb = subst (λ (z : ℤ). unsigned_abs z < 2 ^ 60) (sym (at a b)) (to.small a b (omega (arith, to.width)) (omega (arith, to.height)))
 
     -- what is predicted of the next value
@@ -94,7 +94,7 @@ module _ (cells : Cells) (w h : ℕ) where
         apart : (k : ℕ) → k ≢ y * w + x → line_of new.cells k ≡ line_of band.cells k
         apart k other = off k (λ same. other (same ∙ number))
 
-  pub none_grown : (band : Lattice) → band.width ≡ w → band.height ≡ h → Holds cells band → AreSmall band → GrownTo 0 band
+  pub none_grown : (band : Lattice) → band.width ≡ w → band.height ≡ h → HasValues cells band → AreSmallValues band → GrownTo 0 band
   none_grown band wide high holds small = record {
     width = wide;
     height = high;
@@ -106,7 +106,7 @@ module _ (cells : Cells) (w h : ℕ) where
       seen : (a b : ℕ) → value_in band a b ≡ line_of band.cells (b * w + a)
       seen a b = ap (λ (n : ℕ). line_of band.cells (b * n + a)) wide
 
-  pub all_grown : (band : Lattice) (done : ℕ) → h * w ≤ done → GrownTo done band → Holds (predicted cells) band
+  pub all_grown : (band : Lattice) (done : ℕ) → h * w ≤ done → GrownTo done band → HasValues (predicted cells) band
   all_grown band done whole to a b ha hb =
       let across : a < w = omega (arith, to.width, ha) in
       let down : b < h = omega (arith, to.height, hb) in

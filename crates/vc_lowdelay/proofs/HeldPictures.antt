@@ -23,7 +23,9 @@ use Rattle.picture_build.specs.Output.{output_plane}
 use Rattle.picture_build.proofs.InCells.{cells_are}
 use Rattle.picture_build.proofs.RasterLists.{raster-at, raster-is, length-raster}
 use Rattle.vc_lowdelay.specs.declared.plan.LowPlan.{LowPlan}
+use Rattle.vc_lowdelay.specs.declared.room.LowRoom.{LowRoom}
 use Rattle.vc_lowdelay.specs.Decoded.{IsDecodable}
+use Rattle.vc_lowdelay.specs.InRoom.{AreKeptPlanes, HasCells, HoldsPicture}
 use Rattle.vc_lowdelay.specs.LowDelay.{low_plane, low_planes, low_planes_of, low_slices, lowest_values, predicted, predicted_cells}
 use Rattle.vc_lowdelay.specs.Narrow.{GrowsLowest, HoldsGrown, kept_cells}
 use Rattle.vc_lowdelay.specs.Narrow as narrow
@@ -112,21 +114,22 @@ module _ (p : LowPlan) (bytes : List ℕ) where
       fits C1 = lowest_fits C1 c1 us all.first_colour g1
       fits C2 = lowest_fits C2 c2 vs all.second_colour g2
 
-  plane_is : (c : Component) (cells : List ℤ) → HoldsGrown (low_parameters_of p) bytes c cells → narrow.plane_in own c cells ≡ low_plane own c slices
+  plane_is : (c : Component) (cells : List ℤ) → HoldsGrown (low_parameters_of p) bytes c cells → narrow.kept_plane own c cells ≡ low_plane own c slices
   plane_is c cells holds =
       let f = kept.plane_of (padded_width own c) cells in
       let g = predicted_cells own c (component_cells own c slices) in
       output_same own c (inverse_transform own c f) (inverse_transform own c g)
       (inverse_transform_agrees own c f g (λ x y hx hy. plane_in (padded_width own c) cells x y hx ∙ holds.each x y hx hy))
 
-  module _ (y c1 c2 : List ℤ) (hy : HoldsGrown (low_parameters_of p) bytes Y y) (h1 : HoldsGrown (low_parameters_of p) bytes C1 c1) (h2 : HoldsGrown (low_parameters_of p) bytes C2 c2)
-      (d : IsDecodable (low_parameters_of p) bytes) where
-    pub planes_answer : {E : Type 0} (result : Result (List Raster) E) → IfOk result (λ planes. (planes_in planes).y ≡ narrow.plane_in own Y y)
-        → IfOk result (λ planes. (planes_in planes).c1 ≡ narrow.plane_in own C1 c1) → IfOk result (λ planes. (planes_in planes).c2 ≡ narrow.plane_in own C2 c2)
+  module _ (room : LowRoom) (holds : HoldsPicture p bytes room) where
+    pub has_cells : HasCells p.plan room
+    has_cells = record { y = holds.y.size; c1 = holds.c1.size; c2 = holds.c2.size }
+
+    pub planes_answer : {E : Type 0} (result : Result (List Raster) E) → IfOk result (λ planes. AreKeptPlanes p.plan room (planes_in planes))
         → IfOk result (λ planes. low_planes (low_parameters_of p) bytes ≡ Ok (planes_in planes))
-    planes_answer (Ok planes) ey e1 e2 =
-        let a : slice_index_or planes 0 no_plane ≡ low_plane own Y slices = ey ∙ plane_is Y y hy in
-        let b : slice_index_or planes 1 no_plane ≡ low_plane own C1 slices = e1 ∙ plane_is C1 c1 h1 in
-        let e : slice_index_or planes 2 no_plane ≡ low_plane own C2 slices = e2 ∙ plane_is C2 c2 h2 in
-        is_decoded (low_parameters_of p) bytes d ∙ sym (ok_same (planes_in planes) (low_planes_of own slices) (three_same _ _ _ _ _ _ a b e))
-    planes_answer (Err why) ey e1 e2 = ey
+    planes_answer (Ok planes) are =
+        let a : slice_index_or planes 0 no_plane ≡ low_plane own Y slices = are.y ∙ plane_is Y room.y.items holds.y in
+        let b : slice_index_or planes 1 no_plane ≡ low_plane own C1 slices = are.c1 ∙ plane_is C1 room.c1.items holds.c1 in
+        let e : slice_index_or planes 2 no_plane ≡ low_plane own C2 slices = are.c2 ∙ plane_is C2 room.c2.items holds.c2 in
+        is_decoded (low_parameters_of p) bytes holds.sound ∙ sym (ok_same (planes_in planes) (low_planes_of own slices) (three_same _ _ _ _ _ _ a b e))
+    planes_answer (Err why) are = are

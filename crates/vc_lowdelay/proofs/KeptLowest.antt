@@ -7,7 +7,7 @@ use Rattle.vc_types.specs.Rasters.{Lattice}
 use Rattle.vc_types.specs.Subbands.{levels, padded_width, padded_height}
 use Rattle.vc_types.specs.TransformParameters.{Parameters}
 use Rattle.vc_types.specs.Transforms.{lowest_width, lowest_height}
-use Rattle.vc_lowdelay.specs.Bands.{AreSmall, Holds, IsLowest, value_in}
+use Rattle.vc_lowdelay.specs.Bands.{AreSmallValues, HasValues, IsLowest, value_in}
 use Rattle.vc_lowdelay.specs.LowDelay.{predicted}
 use Rattle.vc_lowdelay.specs.Narrow.{GrowsLowest, cells_of, kept_cells}
 use Rattle.vc_lowdelay.proofs.PredictedValues.{predicted_agrees}
@@ -18,8 +18,8 @@ module _ (p : Parameters) (c : Component) where
   lowest_in_grid = (shr_le (padded_width p c) (levels p), shr_le (padded_height p c) p.depth)
 
   module _ (old new : List ℤ) (band grown : Lattice) (stride : ℕ) (own : stride ≡ padded_width p c)
-      (size : IsLowest p c band) (holds : Holds (kept_cells p c old) band) (wide : grown.width ≡ band.width) (high : grown.height ≡ band.height)
-      (values : Holds (predicted (value_in band)) grown) (small : AreSmall grown)
+      (size : IsLowest p c band) (holds : HasValues (kept_cells p c old) band) (wide : grown.width ≡ band.width) (high : grown.height ≡ band.height)
+      (values : HasValues (predicted (value_in band)) grown) (small : AreSmallValues grown)
       (on : (x y : ℕ) → x < grown.width → y < grown.height → cells_of stride new x y ≡ value_in grown x y)
       (off : (k : ℕ) → ((x y : ℕ) → x < grown.width → y < grown.height → k ≢ y * stride + x) → line_of new k ≡ line_of old k)
       (long : length new ≡ length old) where

@@ -27,7 +27,6 @@ pub mod PredictedValues
 pub mod LargeReads
 pub mod PutSlices
 pub mod SlicesPlaced
-pub mod CellRects
 pub mod SliceReads
 pub mod NarrowSlices
 pub mod LowestCopies

@@ -20,7 +20,7 @@ use Rattle.vc_golomb.proofs.NumberLists.{number_listed}
 use Rattle.vc_slice.proofs.BlockCoefficients.{length-quantisers}
 use Rattle.vc_slice.proofs.NarrowRuns.{length-numbers, length-pairs, index_in}
 use Rattle.vc_lowdelay.specs.Bands.{lowest_rectangle}
-use Rattle.vc_lowdelay.specs.LowDelay.{LowSlice, every_other, numbers_of, low_coefficients}
+use Rattle.vc_lowdelay.specs.LowDelay.{LowSlice, every_other, low_numbers, low_coefficients}
 use Rattle.vc_lowdelay.specs.Placed.{place_of_number, read_at}
 use Rattle.vc_lowdelay.proofs.LowestPlaces.{first_subband, lowest_within}
 
@@ -30,15 +30,15 @@ block_of s Y = s.luma
 block_of s C1 = s.colour
 block_of s C2 = s.colour
 
-pub length-numbers_of : (s : LowSlice) (c : Component) (n : ℕ) → length (numbers_of s c n) ≡ n
-length-numbers_of s Y n = length-numbers n s.luma
-length-numbers_of s C1 n = length-map-range_with_len (λ i. line_of (bounded_sints (2 * n) s.colour) (2 * i + 0)) 0 n
-length-numbers_of s C2 n = length-map-range_with_len (λ i. line_of (bounded_sints (2 * n) s.colour) (2 * i + 1)) 0 n
+pub length-low_numbers : (s : LowSlice) (c : Component) (n : ℕ) → length (low_numbers s c n) ≡ n
+length-low_numbers s Y n = length-numbers n s.luma
+length-low_numbers s C1 n = length-map-range_with_len (λ i. line_of (bounded_sints (2 * n) s.colour) (2 * i + 0)) 0 n
+length-low_numbers s C2 n = length-map-range_with_len (λ i. line_of (bounded_sints (2 * n) s.colour) (2 * i + 1)) 0 n
 
 turn_at : (first n i : ℕ) (numbers : List ℤ) → i < n → line_of (every_other first n numbers) i ≡ line_of numbers (2 * i + first)
 turn_at first n i numbers h = get_or-map-range_with_len (λ i. line_of numbers (2 * i + first)) 0 n i i (pos 0) h (omega arith)
 
-pub number_of_slice : (s : LowSlice) (c : Component) (n i : ℕ) → i < n → line_of (numbers_of s c n) i ≡ number_at (block_of s c) (place_of_number c i)
+pub number_of_slice : (s : LowSlice) (c : Component) (n i : ℕ) → i < n → line_of (low_numbers s c n) i ≡ number_at (block_of s c) (place_of_number c i)
 number_of_slice s Y n i h = number_listed n i s.luma h
 number_of_slice s C1 n i h =
     let bits = s.colour in
@@ -52,23 +52,23 @@ module _ (p : Parameters) (n : ℕ) (s : LowSlice) (c : Component) where
   abbrev count : ℕ
   count = slice_coefficient_count p c n
 
-  pairs : length (zip (numbers_of s c count) (quantisers p c n s.index)) ≡ count
+  pairs : length (zip (low_numbers s c count) (quantisers p c n s.index)) ≡ count
   pairs =
-      let long = length-numbers_of s c count in
-      length-pairs (numbers_of s c count) (quantisers p c n s.index) (long ∙ sym (length-quantisers p c n s.index)) ∙ long
+      let long = length-low_numbers s c count in
+      length-pairs (low_numbers s c count) (quantisers p c n s.index) (long ∙ sym (length-quantisers p c n s.index)) ∙ long
 
   pub length-low : length (low_coefficients p n s c) ≡ slice_coefficient_count p c n
   unfolding low_coefficients
-  length-low = length-map (zip (numbers_of s c count) (quantisers p c n s.index)) (λ (z : ℤ × ℕ). dequantised z.0 z.1) ∙ pairs
+  length-low = length-map (zip (low_numbers s c count) (quantisers p c n s.index)) (λ (z : ℤ × ℕ). dequantised z.0 z.1) ∙ pairs
 
   -- each by its number
   pub low_at : (i : ℕ) → i < slice_coefficient_count p c n
       → line_of (low_coefficients p n s c) i ≡ dequantised (number_at (block_of s c) (place_of_number c i)) (get_or (quantisers p c n s.index) i 0)
   unfolding low_coefficients
   low_at i h =
-      let numbers = numbers_of s c count in
+      let numbers = low_numbers s c count in
       let indices = quantisers p c n s.index in
-      let long = length-numbers_of s c count in
+      let long = length-low_numbers s c count in
       let many = length-quantisers p c n s.index in
       get_or-map (λ (z : ℤ × ℕ). dequantised z.0 z.1) (zip numbers indices) i (pos 0, 0) (pos 0) (omega (arith, pairs, h))
       ∙ ap (λ (z : ℤ × ℕ). dequantised z.0 z.1) (get_or-zip numbers indices i (pos 0, 0) (omega (arith, long, h)) (omega (arith, many, h)))

@@ -15,7 +15,7 @@ use Rattle.picture_build.proofs.PlacedNumbers.{kept_apart}
 use Rattle.vc_lowdelay.specs.declared.plan.LowPlan.{LowPlan}
 use Rattle.vc_lowdelay.specs.Grown.{IsSound}
 use Rattle.vc_lowdelay.specs.LowDelay.{all_low_coefficients, low_coefficients, low_slices, slice_at}
-use Rattle.vc_lowdelay.specs.Narrow.{HasSize}
+use Rattle.vc_lowdelay.specs.Narrow.{HasPaddedSize}
 use Rattle.vc_lowdelay.specs.OfPlan.{low_parameters_of}
 use Rattle.vc_lowdelay.proofs.LowAnswers.{length-low_slices}
 use Rattle.vc_lowdelay.proofs.LowCoefficients.{length-low}
@@ -31,14 +31,14 @@ module _ (p : LowPlan) (bytes : List ℕ) where
 
   -- the first n slices stand in the cells of a component
   pub record FirstIn (c : Component) (n : ℕ) (cells : List ℤ) : Type 0 where
-    pub size : HasSize own c cells
+    pub size : HasPaddedSize own c cells
     pub stand : (k i : ℕ) → k < n → i < slice_coefficient_count own c k → line_of cells (kept_at own c k i) ≡ line_of (coefficients k c) i
 
   -- and none of them has a large coefficient
   abbrev pub FirstSound : ℕ → Type 0
   FirstSound n = (k : ℕ) → k < n → IsSound own k (slice_at (low_parameters_of p) bytes k)
 
-  pub none_in : (c : Component) (cells : List ℤ) → HasSize own c cells → FirstIn c 0 cells
+  pub none_in : (c : Component) (cells : List ℤ) → HasPaddedSize own c cells → FirstIn c 0 cells
   none_in c cells size = record { size = size; stand = λ k i h below. absurd (omega (arith, h)) }
 
   pub one_more_in : (c : Component) (n : ℕ) (old new : List ℤ) → n < slice_count own → FirstIn c n old → FillsSlice own c n (coefficients n c) old new → FirstIn c (n + 1) new

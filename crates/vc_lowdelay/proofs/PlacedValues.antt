@@ -15,7 +15,7 @@ use Rattle.vc_types.proofs.RectangleCells.{place_in-inside, same_place}
 use Rattle.picture_build.specs.Kept.{no_coefficients}
 use Rattle.picture_build.proofs.Placements.{places-apart}
 use Rattle.picture_build.proofs.Standing.{component_cells-met}
-use Rattle.vc_lowdelay.specs.Bands.{AreSmall, Holds, IsLowest, lowest_rectangle, number_in}
+use Rattle.vc_lowdelay.specs.Bands.{AreSmallValues, HasValues, IsLowest, lowest_rectangle, number_in}
 use Rattle.vc_lowdelay.specs.Placed.{Places}
 use Rattle.vc_lowdelay.proofs.LowestPlaces.{lowest_within, lowest_place, lowest_right, lowest_bottom, lowest_met}
 
@@ -113,7 +113,7 @@ module _ (p : Parameters) (c : Component) (some_across : 0 < p.slices_x) (some_d
         (λ k h. counts k h ∙ ap (slice_coefficient_count p c) (omega arith)) place.0 place.1 met (omega (arith, all, numbered))
 
     -- each place has its value
-    pub all_placed : (band : Lattice) → FirstPlaced p c own_values (slice_count p) band → Holds (component_cells p c slices) band
+    pub all_placed : (band : Lattice) → FirstPlaced p c own_values (slice_count p) band → HasValues (component_cells p c slices) band
     all_placed band first x y ha hb =
         let met = lowest_met p c x y (omega (arith, first.size.width, ha)) (omega (arith, first.size.height, hb)) some_across some_down in
         ap (λ (q : Place). line_of band.cells (number_in band q)) (sym met.place)
@@ -121,7 +121,7 @@ module _ (p : Parameters) (c : Component) (some_across : 0 < p.slices_x) (some_d
         ∙ sym (lowest_cell met.slice met.number met.numbered met.below)
         ∙ ap (λ (q : Place). component_cells p c slices q.0 q.1) met.place
 
-    pub all_small : (band : Lattice) → FirstPlaced p c own_values (slice_count p) band → AreSmall band
+    pub all_small : (band : Lattice) → FirstPlaced p c own_values (slice_count p) band → AreSmallValues band
     all_small band first x y ha hb =
         let met = lowest_met p c x y (omega (arith, first.size.width, ha)) (omega (arith, first.size.height, hb)) some_across some_down in
         subst (λ (z : ℤ). unsigned_abs z < 2 ^ 60)

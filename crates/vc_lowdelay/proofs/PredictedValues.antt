@@ -10,7 +10,7 @@ use Rattle.vc_types.specs.Subbands.{slice_count, slice_coefficient_count}
 use Rattle.vc_types.specs.TransformParameters.{Parameters}
 use Rattle.vc_types.specs.Transforms.{Cells, lowest_width, lowest_height}
 use Rattle.picture_build.specs.Kept.{no_coefficients}
-use Rattle.vc_lowdelay.specs.Bands.{AreSmall, HasLarge, Holds, IsGrown, value_in}
+use Rattle.vc_lowdelay.specs.Bands.{AreSmallValues, HasLargeValue, HasValues, IsGrown, value_in}
 use Rattle.vc_lowdelay.specs.LowDelay.{are_large, first_row, next_row, grown_row, mean_of, predicted}
 use Rattle.vc_lowdelay.proofs.PlacedValues.{FirstPlaced, all_placed, values_of}
 use Rattle.vc_lowdelay.proofs.Soundness.{lowest_large, lowest_is_large}
@@ -52,17 +52,17 @@ module _ (p : Parameters) (c : Component) (some_across : 0 < p.slices_x) (some_d
     (slices : List Coefficients) (all : length slices ≡ slice_count p)
     (counts : (k : ℕ) → k < length slices → length (coefficients_of (slice_index_or slices k no_coefficients) c) ≡ slice_coefficient_count p c k)
     (old : Lattice) (first : FirstPlaced p c (values_of slices c) (slice_count p) old) where
-  holds : Holds (component_cells p c slices) old
+  holds : HasValues (component_cells p c slices) old
   holds = all_placed p c some_across some_down slices all counts old first
 
-  pub is_grown : (new : Lattice) → new.width ≡ old.width → new.height ≡ old.height → Holds (predicted (value_in old)) new → AreSmall new → IsGrown p c slices new
+  pub is_grown : (new : Lattice) → new.width ≡ old.width → new.height ≡ old.height → HasValues (predicted (value_in old)) new → AreSmallValues new → IsGrown p c slices new
   is_grown new wide high values small = record {
     size = record { width = wide ∙ first.size.width; height = high ∙ first.size.height };
     values = λ x y hx hy. values x y hx hy ∙ predicted_agrees (value_in old) (component_cells p c slices) old.width old.height holds x y (omega (arith, hx, wide)) (omega (arith, hy, high));
     small = small;
   }
 
-  pub grows_large : HasLarge (predicted (value_in old)) old → are_large p slices ≡ true
+  pub grows_large : HasLargeValue (predicted (value_in old)) old → are_large p slices ≡ true
   grows_large has =
       let same = predicted_agrees (value_in old) (component_cells p c slices) old.width old.height holds has.x has.y has.across has.down in
       lowest_is_large p slices c

@@ -12,14 +12,13 @@ use Rattle.vc_slice.specs.declared.bands.SliceBands.{SliceBands}
 use Rattle.vc_slice.specs.Bands.{coefficient_count, quantisers_of}
 use Rattle.vc_slice.proofs.ColourParts.{colour_counts}
 use Rattle.vc_slice.proofs.NarrowRuns.{none_large}
-use Rattle.picture_build.specs.PartsKept.{FillsPart}
+use Rattle.picture_build.specs.PartsKept.{FillsPart, PutsCoefficients}
 use Rattle.picture_build.proofs.GridCells.{written_over}
 use Rattle.vc_lowdelay.specs.declared.slice.LowSlice.{LowSlice}
 use Rattle.vc_lowdelay.specs.Coded.{slice_of}
 use Rattle.vc_lowdelay.specs.Grown.{IsSound}
 use Rattle.vc_lowdelay.specs.LowDelay as low
 use Rattle.vc_lowdelay.specs.LowDelay.{low_coefficients}
-use Rattle.vc_lowdelay.specs.Narrow.{PutsCoefficients}
 use Rattle.vc_lowdelay.specs.OfBands.{parameters_in, read_in, turned_in}
 use Rattle.vc_lowdelay.specs.Placed.{place_of_number}
 use Rattle.vc_lowdelay.proofs.LowCoefficients.{block_of, length-low, low_at}

@@ -6,7 +6,7 @@ use Rattle.vc_types.specs.Lifting.{line_of}
 use Rattle.vc_types.specs.Rasters.{Lattice}
 use Rattle.vc_types.specs.Slices.{is_large}
 use Rattle.vc_types.specs.Subbands.{slice_count}
-use Rattle.vc_lowdelay.specs.Bands.{AreSmall, HasLarge, Holds, IsGrown, value_in}
+use Rattle.vc_lowdelay.specs.Bands.{AreSmallValues, HasLargeValue, HasValues, IsGrown, value_in}
 use Rattle.vc_lowdelay.specs.LowDelay.{LowParameters, LowSlice, are_large, low_coefficients, low_slices, predicted, slice_at}
 use Rattle.vc_lowdelay.specs.Placed.{HasLargeIn, Places, coefficient_at}
 use Rattle.vc_lowdelay.proofs.LowAnswers.{length-low_slices, low_coefficients_at, low_counts}
@@ -30,11 +30,11 @@ module _ (p : LowParameters) (bytes : List ℕ) (some_across : 0 < p.parameters.
   all_in : FirstPlaced p.parameters c (values_of (low_slices p bytes) c) (slice_count p.parameters) band
   all_in = subst (λ (k : ℕ). FirstPlaced p.parameters c (values_of (low_slices p bytes) c) k band) done first
 
-  pub is_ready : AreSmall band
+  pub is_ready : AreSmallValues band
   is_ready = all_small p.parameters c some_across some_down (low_slices p bytes) (length-low_slices p bytes) (low_counts p bytes c) band all_in
 
-  pub has_grown : (new : Lattice) → new.width ≡ band.width → new.height ≡ band.height → Holds (predicted (value_in band)) new → AreSmall new → IsGrown p.parameters c (low_slices p bytes) new
+  pub has_grown : (new : Lattice) → new.width ≡ band.width → new.height ≡ band.height → HasValues (predicted (value_in band)) new → AreSmallValues new → IsGrown p.parameters c (low_slices p bytes) new
   has_grown = is_grown p.parameters c some_across some_down (low_slices p bytes) (length-low_slices p bytes) (low_counts p bytes c) band all_in
 
-  pub growth_refuses : HasLarge (predicted (value_in band)) band → are_large p.parameters (low_slices p bytes) ≡ true
+  pub growth_refuses : HasLargeValue (predicted (value_in band)) band → are_large p.parameters (low_slices p bytes) ≡ true
   growth_refuses = grows_large p.parameters c some_across some_down (low_slices p bytes) (length-low_slices p bytes) (low_counts p bytes c) band all_in

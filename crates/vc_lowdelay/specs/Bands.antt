@@ -31,15 +31,15 @@ abbrev pub grown_value : Lattice → Cells
 grown_value band x y = value_in band x y +ℤ prediction_in (value_in band) x y
 
 -- each value in the band is below 2 ^ 60
-abbrev pub AreSmall : Lattice → Type 0
-AreSmall band = (x y : ℕ) → x < band.width → y < band.height → unsigned_abs (value_in band x y) < 2 ^ 60
+abbrev pub AreSmallValues : Lattice → Type 0
+AreSmallValues band = (x y : ℕ) → x < band.width → y < band.height → unsigned_abs (value_in band x y) < 2 ^ 60
 
 -- the values are those of a function of the place
-abbrev pub Holds : Cells → Lattice → Type 0
-Holds cells band = (x y : ℕ) → x < band.width → y < band.height → value_in band x y ≡ cells x y
+abbrev pub HasValues : Cells → Lattice → Type 0
+HasValues cells band = (x y : ℕ) → x < band.width → y < band.height → value_in band x y ≡ cells x y
 
 -- some value of a function is large in as many columns and rows
-pub record HasLarge (cells : Cells) (band : Lattice) : Type 0 where
+pub record HasLargeValue (cells : Cells) (band : Lattice) : Type 0 where
   pub x : ℕ
   pub y : ℕ
   pub across : x < band.width
@@ -59,5 +59,5 @@ pub record IsLowest (p : Parameters) (c : Component) (band : Lattice) : Type 0 w
 pub record IsGrown (p : Parameters) (c : Component) (slices : List Coefficients) (band : Lattice)
     : Type 0 where
   pub size : IsLowest p c band
-  pub values : Holds (predicted (component_cells p c slices)) band
-  pub small : AreSmall band
+  pub values : HasValues (predicted (component_cells p c slices)) band
+  pub small : AreSmallValues band

@@ -8,5 +8,5 @@ pub mod Grown
 pub mod OfBands
 pub mod Components
 pub mod Decoded
-pub mod CellRects
 pub mod Narrow
+pub mod InRoom

@@ -115,15 +115,15 @@ abbrev pub every_other : ℕ → ℕ → List ℤ → List ℤ
 every_other first n numbers = map (λ i. line_of numbers (2 * i + first)) (range_with_len 0 n)
 
 -- the n numbers of a component: in the colour block C1 and C2 have one each in turn, C1 first
-abbrev pub numbers_of : LowSlice → Component → ℕ → List ℤ
-numbers_of s Y n = bounded_sints n s.luma
-numbers_of s C1 n = every_other 0 n (bounded_sints (2 * n) s.colour)
-numbers_of s C2 n = every_other 1 n (bounded_sints (2 * n) s.colour)
+abbrev pub low_numbers : LowSlice → Component → ℕ → List ℤ
+low_numbers s Y n = bounded_sints n s.luma
+low_numbers s C1 n = every_other 0 n (bounded_sints (2 * n) s.colour)
+low_numbers s C2 n = every_other 1 n (bounded_sints (2 * n) s.colour)
 
 -- the coefficients that they stand for, in the slice's order
 unfoldable pub low_coefficients : Parameters → ℕ → LowSlice → Component → List ℤ
 low_coefficients p i s c = map (λ z. dequantised z.0 z.1)
-    (zip (numbers_of s c (slice_coefficient_count p c i)) (quantisers p c i s.index))
+    (zip (low_numbers s c (slice_coefficient_count p c i)) (quantisers p c i s.index))
 
 abbrev pub all_low_coefficients : Parameters → ℕ → LowSlice → Coefficients
 all_low_coefficients p i s = record {

@@ -7,9 +7,9 @@ ghost use Rattle.vc_types.specs.Subbands.{area, place_in};
 ghost use Rattle.vc_types.specs.TransformParameters.{parameters_of};
 ghost use Rattle.vc_types.specs.Transforms.{lowest_width, lowest_height};
 ghost use Rattle.vc_lowdelay.specs.LowDelay.{mean_of, predicted};
-ghost use Rattle.vc_lowdelay.specs.Bands.{AreSmall, HasLarge, Holds, IsLowest};
+ghost use Rattle.vc_lowdelay.specs.Bands.{AreSmallValues, HasLargeValue, HasValues, IsLowest};
 ghost use Rattle.vc_lowdelay.specs.Bands.{grown_value, lowest_rectangle, number_in, prediction_in, value_in};
-ghost use Rattle.vc_lowdelay.specs.Narrow.{GrowsLowest, HasSize, cells_of, kept_cells};
+ghost use Rattle.vc_lowdelay.specs.Narrow.{GrowsLowest, HasPaddedSize, cells_of, kept_cells};
 
 use crate::refusal::{LargeValue, NarrowFault};
 use std::alloc::Global;
@@ -68,10 +68,10 @@ impl LowestBand {
         c: Component,
         cells: &[i32],
     ) -> Result<LowestBand, NoMemory>
-        requires { HasSize (parameters_of plan.now) c cells.now }
+        requires { HasPaddedSize (parameters_of plan.now) c cells.now }
         ensures size { IfOk result (IsLowest (parameters_of plan.now) c) }
-        ensures values { IfOk result (Holds (kept_cells (parameters_of plan.now) c cells.now)) }
-        ensures small { IfOk result (λ band. AreSmall band) }
+        ensures values { IfOk result (HasValues (kept_cells (parameters_of plan.now) c cells.now)) }
+        ensures small { IfOk result (λ band. AreSmallValues band) }
     {
         let rect = band(plan, c, 0);
         let (stride, _) = padded(plan, c);
@@ -138,12 +138,12 @@ impl LowestBand {
     /// Each value grows by its prediction (ST 2042-1, prediction in the lowest subband), row by row. Refused
     /// where one is large then; the band isn't to be used after that.
     pub(crate) fn grow(&mut self) -> Result<(), LargeValue>
-        requires { AreSmall self.old }
+        requires { AreSmallValues self.old }
         ensures size { OnOk result
             ((self.new.width ≡ self.old.width) × (self.new.height ≡ self.old.height)) }
-        ensures grown { OnOk result (Holds (predicted (value_in self.old)) self.new) }
-        ensures small { OnOk result (AreSmall self.new) }
-        ensures large { OnErr result (HasLarge (predicted (value_in self.old)) self.old) }
+        ensures grown { OnOk result (HasValues (predicted (value_in self.old)) self.new) }
+        ensures small { OnOk result (AreSmallValues self.new) }
+        ensures large { OnErr result (HasLargeValue (predicted (value_in self.old)) self.old) }
     {
         let width = self.width;
         let height = self.height;
@@ -160,7 +160,7 @@ impl LowestBand {
     fn grown(&self, x: u32, y: u32) -> Result<i64, LargeValue>
         requires across { x < self.now.width }
         requires down { y < self.now.height }
-        requires small { AreSmall self.now }
+        requires small { AreSmallValues self.now }
         ensures value { IfOk result (λ z. z ≡ grown_value self.now x y) }
         ensures small { IfOk result (λ z. unsigned_abs z < 2 ^ 60) }
         ensures large { OnErr result (2 ^ 60 ≤ unsigned_abs (grown_value self.now x y)) }
@@ -177,7 +177,7 @@ impl LowestBand {
     fn prediction(&self, x: u32, y: u32) -> i64
         requires across { x < self.now.width }
         requires down { y < self.now.height }
-        requires small { AreSmall self.now }
+        requires small { AreSmallValues self.now }
         ensures value { result ≡ prediction_in (value_in self.now) x y }
         ensures range { unsigned_abs result ≤ 2 ^ 60 }
     {
@@ -203,7 +203,7 @@ pub(crate) fn grow_lowest(
     c: Component,
     cells: &mut Vec<i32>,
 ) -> Result<(), NarrowFault>
-    requires { HasSize (parameters_of plan.now) c cells.old.items }
+    requires { HasPaddedSize (parameters_of plan.now) c cells.old.items }
     ensures { OnOk result (GrowsLowest (parameters_of plan.now) c cells.old.items cells.new.items) }
 {
     let (stride, _) = padded(plan, c);

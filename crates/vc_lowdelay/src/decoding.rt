@@ -1,12 +1,11 @@
 ghost use Rattle.std.specs.Prelude.{◌≡◌, ◌≤◌, ◌<◌, Ok, IfOk, IfErr, OnOk, length};
-ghost use Rattle.vc_types.specs.declared.video.Component.TheVariants.{Y, C1, C2};
 ghost use Rattle.vc_types.specs.Planes.{planes_in};
 ghost use Rattle.vc_types.specs.TransformParameters.{parameters_of};
 ghost use Rattle.picture_build.specs.Kept.{all_slices};
 ghost use Rattle.vc_lowdelay.specs.Decoded.{IsDecodable, IsLargeAt, IsSliceAt};
 ghost use Rattle.vc_lowdelay.specs.Grown.{grown_slices};
 ghost use Rattle.vc_lowdelay.specs.LowDelay.{low_planes, low_slices};
-ghost use Rattle.vc_lowdelay.specs.Narrow.{HoldsGrown};
+ghost use Rattle.vc_lowdelay.specs.InRoom.{HoldsPicture};
 ghost use Rattle.vc_lowdelay.specs.OfBands.{AreLowest};
 ghost use Rattle.vc_lowdelay.specs.OfPlan.{low_parameters_of, picture_bytes, slice_count};
 ghost use Rattle.vc_lowdelay.specs.Refusals.{IsRefusalFor, IsRefusalOf};
@@ -121,10 +120,7 @@ fn put_cells(
     room: &mut LowRoom,
 ) -> Result<(), NarrowFault>
     requires whole { picture_bytes p.now ≤ length bytes.now }
-    ensures y { OnOk result (HoldsGrown (low_parameters_of p.now) bytes.now Y room.new.y.items) }
-    ensures c1 { OnOk result (HoldsGrown (low_parameters_of p.now) bytes.now C1 room.new.c1.items) }
-    ensures c2 { OnOk result (HoldsGrown (low_parameters_of p.now) bytes.now C2 room.new.c2.items) }
-    ensures sound { OnOk result (IsDecodable (low_parameters_of p.now) bytes.now) }
+    ensures { OnOk result (HoldsPicture p.now bytes.now room.new) }
 {
     room.fit(alloc, &p.plan)?;
     put_slices(alloc, p, bytes, room)?;

@@ -6,7 +6,8 @@ ghost use Rattle.vc_types.specs.Subbands.{plane_width, plane_height, plane_depth
 ghost use Rattle.vc_types.specs.TransformParameters.{parameters_of};
 ghost use Rattle.vc_types.specs.Transforms.{inverse_transform};
 ghost use Rattle.vc_wave.specs.Planes.{plane_of};
-ghost use Rattle.vc_lowdelay.specs.Narrow.{HasSize, plane_in};
+ghost use Rattle.vc_lowdelay.specs.InRoom.{AreKeptPlanes, HasCells};
+ghost use Rattle.vc_lowdelay.specs.Narrow.{HasPaddedSize, kept_plane};
 
 use crate::refusal::NarrowFault;
 use crate::room::LowRoom;
@@ -31,15 +32,8 @@ pub(crate) fn planes(
     plan: &Plan,
     room: &mut LowRoom,
 ) -> Result<[Plane; 3], NarrowFault>
-    requires y { HasSize (parameters_of plan.now) Y room.old.y.items }
-    requires c1 { HasSize (parameters_of plan.now) C1 room.old.c1.items }
-    requires c2 { HasSize (parameters_of plan.now) C2 room.old.c2.items }
-    ensures y { IfOk result (λ planes.
-        (planes_in planes).y ≡ plane_in (parameters_of plan.now) Y room.old.y.items) }
-    ensures c1 { IfOk result (λ planes.
-        (planes_in planes).c1 ≡ plane_in (parameters_of plan.now) C1 room.old.c1.items) }
-    ensures c2 { IfOk result (λ planes.
-        (planes_in planes).c2 ≡ plane_in (parameters_of plan.now) C2 room.old.c2.items) }
+    requires { HasCells plan.now room.old }
+    ensures { IfOk result (λ planes. AreKeptPlanes plan.now room.old (planes_in planes)) }
 {
     let y = plane(alloc, plan, Component::Y, &room.y, &mut room.luma)?;
     let c1 = plane(alloc, plan, Component::C1, &room.c1, &mut room.colour)?;
@@ -54,15 +48,8 @@ pub(crate) fn planes_joined<H: Threads + Copy + Send + Sync>(
     plan: &Plan,
     room: &mut LowRoom,
 ) -> Result<[Plane; 3], NarrowFault>
-    requires y { HasSize (parameters_of plan.now) Y room.old.y.items }
-    requires c1 { HasSize (parameters_of plan.now) C1 room.old.c1.items }
-    requires c2 { HasSize (parameters_of plan.now) C2 room.old.c2.items }
-    ensures y { IfOk result (λ planes.
-        (planes_in planes).y ≡ plane_in (parameters_of plan.now) Y room.old.y.items) }
-    ensures c1 { IfOk result (λ planes.
-        (planes_in planes).c1 ≡ plane_in (parameters_of plan.now) C1 room.old.c1.items) }
-    ensures c2 { IfOk result (λ planes.
-        (planes_in planes).c2 ≡ plane_in (parameters_of plan.now) C2 room.old.c2.items) }
+    requires { HasCells plan.now room.old }
+    ensures { IfOk result (λ planes. AreKeptPlanes plan.now room.old (planes_in planes)) }
 {
     let cells = PictureCells {
         y: room.y.as_slice(),
@@ -82,14 +69,14 @@ fn joined<H: Threads>(
     luma: &mut Vec<i32>,
     colour: &mut Vec<i32>,
 ) -> (Answer, (Answer, Answer))
-    requires y { HasSize (parameters_of plan.now) Y cells.now.y.now }
-    requires c1 { HasSize (parameters_of plan.now) C1 cells.now.c1.now }
-    requires c2 { HasSize (parameters_of plan.now) C2 cells.now.c2.now }
-    ensures y { IfOk result.0 (λ plane. plane ≡ plane_in (parameters_of plan.now) Y cells.now.y.now) }
+    requires y { HasPaddedSize (parameters_of plan.now) Y cells.now.y.now }
+    requires c1 { HasPaddedSize (parameters_of plan.now) C1 cells.now.c1.now }
+    requires c2 { HasPaddedSize (parameters_of plan.now) C2 cells.now.c2.now }
+    ensures y { IfOk result.0 (λ plane. plane ≡ kept_plane (parameters_of plan.now) Y cells.now.y.now) }
     ensures c1 { IfOk result.1.0
-        (λ plane. plane ≡ plane_in (parameters_of plan.now) C1 cells.now.c1.now) }
+        (λ plane. plane ≡ kept_plane (parameters_of plan.now) C1 cells.now.c1.now) }
     ensures c2 { IfOk result.1.1
-        (λ plane. plane ≡ plane_in (parameters_of plan.now) C2 cells.now.c2.now) }
+        (λ plane. plane ≡ kept_plane (parameters_of plan.now) C2 cells.now.c2.now) }
 {
     join_mut(
         rt,
@@ -105,12 +92,12 @@ fn colours(
     cells: &PictureCells<'_>,
     work: &mut Vec<i32>,
 ) -> (Answer, Answer)
-    requires c1 { HasSize (parameters_of plan.now) C1 cells.now.c1.now }
-    requires c2 { HasSize (parameters_of plan.now) C2 cells.now.c2.now }
+    requires c1 { HasPaddedSize (parameters_of plan.now) C1 cells.now.c1.now }
+    requires c2 { HasPaddedSize (parameters_of plan.now) C2 cells.now.c2.now }
     ensures c1 { IfOk result.0
-        (λ plane. plane ≡ plane_in (parameters_of plan.now) C1 cells.now.c1.now) }
+        (λ plane. plane ≡ kept_plane (parameters_of plan.now) C1 cells.now.c1.now) }
     ensures c2 { IfOk result.1
-        (λ plane. plane ≡ plane_in (parameters_of plan.now) C2 cells.now.c2.now) }
+        (λ plane. plane ≡ kept_plane (parameters_of plan.now) C2 cells.now.c2.now) }
 {
     (
         plane(alloc, plan, Component::C1, cells.c1, work),
@@ -126,8 +113,8 @@ fn plane(
     nested: &[i32],
     work: &mut Vec<i32>,
 ) -> Result<Plane, NarrowFault>
-    requires { HasSize (parameters_of plan.now) c nested.now }
-    ensures { IfOk result (λ plane. plane ≡ plane_in (parameters_of plan.now) c nested.now) }
+    requires { HasPaddedSize (parameters_of plan.now) c nested.now }
+    ensures { IfOk result (λ plane. plane ≡ kept_plane (parameters_of plan.now) c nested.now) }
 {
     match nested_plane(alloc, plan, c, nested, work)? {
         Some(plane) => Ok(plane),

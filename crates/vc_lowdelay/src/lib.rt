@@ -2,14 +2,12 @@
 #![tactic(auto)]
 
 mod bands;
-mod cell_rect;
 mod coefficient;
 mod decoding;
 mod finishing;
 mod lowest;
 mod narrow;
 mod params;
-mod placing;
 mod plan;
 mod refusal;
 mod room;

@@ -5,19 +5,19 @@ ghost use Rattle.vc_types.specs.TransformParameters.{parameters_of};
 ghost use Rattle.vc_golomb.specs.Numbers.{number_at};
 ghost use Rattle.vc_slice.specs.Bands.{coefficient_count};
 ghost use Rattle.picture_build.specs.Kept.{AllAreIn};
-ghost use Rattle.picture_build.specs.PartsKept.{AreCells, FillsPart};
+ghost use Rattle.picture_build.specs.PartsKept.{AreCells, FillsPart, PutsCoefficients};
 ghost use Rattle.vc_lowdelay.specs.Coded.{slice_of};
 ghost use Rattle.vc_lowdelay.specs.Grown.{IsSound};
 ghost use Rattle.vc_lowdelay.specs.LowDelay.{low_coefficients, low_slices};
-ghost use Rattle.vc_lowdelay.specs.Narrow.{HasSize, PutsCoefficients};
+ghost use Rattle.vc_lowdelay.specs.InRoom.{HasCells};
 ghost use Rattle.vc_lowdelay.specs.OfBands.{parameters_in, read_in, turn_of, turned_in};
 ghost use Rattle.vc_lowdelay.specs.OfPlan.{low_parameters_of, picture_bytes};
 
-use crate::placing::put_numbers;
 use crate::plan::LowPlan;
 use crate::refusal::NarrowFault;
 use crate::room::{LowRoom, at_least};
 use crate::slice::LowSlice;
+use picture_build::put_dequantised;
 use std::alloc::Global;
 use vc_bits::Block;
 use vc_golomb::read_sints;
@@ -43,9 +43,7 @@ pub(crate) fn put_slices(
     room: &mut LowRoom,
 ) -> Result<(), NarrowFault>
     requires whole { picture_bytes p.now ≤ length bytes.now }
-    requires y { HasSize (parameters_of p.now.plan) Y room.old.y.items }
-    requires c1 { HasSize (parameters_of p.now.plan) C1 room.old.c1.items }
-    requires c2 { HasSize (parameters_of p.now.plan) C2 room.old.c2.items }
+    requires room { HasCells p.now.plan room.old }
     ensures { OnOk result (AllAreIn (parameters_of p.now.plan)
         (low_slices (low_parameters_of p.now) bytes.now)
         room.new.y.items room.new.c1.items room.new.c2.items) }
@@ -112,7 +110,7 @@ fn put_luma(
 {
     let count = bands.parts.count(Component::Y) as usize;
     let greatest = read_block(bands.index, block, count, numbers)?;
-    put_numbers(bands, Component::Y, numbers, greatest, cells)
+    put_dequantised(bands, Component::Y, numbers, greatest, cells)
 }
 
 // Puts those of both colours, whose numbers take turns, at their places.
@@ -160,7 +158,7 @@ fn put_colour(
         (turned_in bands.now c turns.now.numbers.now) cells.old.items cells.new.items) }
 {
     take_turns(turns.numbers, first_turn(c), bands.parts.count(c), numbers);
-    put_numbers(bands, c, numbers, turns.greatest, cells)
+    put_dequantised(bands, c, numbers, turns.greatest, cells)
 }
 
 // Which of both numbers at a place of the colours' block is the component's.

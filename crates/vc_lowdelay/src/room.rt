@@ -1,7 +1,7 @@
 ghost use Rattle.std.specs.Prelude.{◌≡◌, ◌≤◌, OnOk, length};
-ghost use Rattle.vc_types.specs.declared.video.Component.TheVariants.{Y, C1, C2};
 ghost use Rattle.vc_types.specs.TransformParameters.{parameters_of};
-ghost use Rattle.vc_lowdelay.specs.Narrow.{HasSize};
+ghost use Rattle.vc_lowdelay.specs.InRoom.{HasCells};
+ghost use Rattle.vc_lowdelay.specs.Narrow.{HasPaddedSize};
 
 use std::alloc::Global;
 use vc_geometry::padded;
@@ -40,9 +40,7 @@ impl LowRoom {
 
     /// Has as many cells as the components of a plan's picture.
     pub(crate) fn fit(&mut self, alloc: Global, plan: &Plan) -> Result<(), NoMemory>
-        ensures y { OnOk result (HasSize (parameters_of plan.now) Y self.new.y.items) }
-        ensures c1 { OnOk result (HasSize (parameters_of plan.now) C1 self.new.c1.items) }
-        ensures c2 { OnOk result (HasSize (parameters_of plan.now) C2 self.new.c2.items) }
+        ensures { OnOk result (HasCells plan.now self.new) }
     {
         fit_component(alloc, plan, Component::Y, &mut self.y)?;
         fit_component(alloc, plan, Component::C1, &mut self.c1)?;
@@ -58,7 +56,7 @@ fn fit_component(
     c: Component,
     cells: &mut Vec<i32>,
 ) -> Result<(), NoMemory>
-    ensures { OnOk result (HasSize (parameters_of plan.now) c cells.new.items) }
+    ensures { OnOk result (HasPaddedSize (parameters_of plan.now) c cells.new.items) }
 {
     let (width, height) = padded(plan, c);
     let count = height as usize * width as usize;

@@ -1,9 +1,10 @@
 -- Rows of samples that are put out: two samples more, one row more.
 use Rattle.std.proofs.Common.{◌≡◌, ℕ, ◌+◌, ◌*◌, ◌/◌, ◌%◌, ◌<◌, ◌≤◌, ◌⊎◌, inl, inr, List, length, set, ℤ}
-use Rattle.std.proofs.Common.{arith, ap, sym, ◌∙◌, slice_index_or, Option}
+use Rattle.std.proofs.Common.{arith, ap, sym, ◌∙◌, slice_index_or, Option, ◌-◌, ◌++◌}
 use Rattle.std.proofs.Math.Nat.{mul-le-mul_right}
-use Rattle.std.proofs.lemmas.Bool.{cases_eq}
-use Rattle.std.proofs.lemmas.List.{get_or-set_same, get_or-set_other}
+use Rattle.std.proofs.Math.Seq.{get_or-append_right}
+use Rattle.std.proofs.lemmas.Bool.{cases_eq, cases_lt}
+use Rattle.std.proofs.lemmas.List.{get_or-set_same, get_or-set_other, get_or_append_left}
 use Rattle.std.proofs.lemmas.Nat.{mul-add-lt}
 use Rattle.vc_types.specs.Lifting.{Line, line_of}
 use Rattle.vc_wave.specs.NarrowBounds.{HasBound, RowHasBound}
@@ -73,3 +74,34 @@ left_bound carry start width first cells left bound = record {
   small = λ k h. rw (left (start + k) (omega arith)) (bound.small (start + k));
   fits = bound.fits;
 }
+
+-- ---- a plane whose upper rows and lower rows are made apart
+
+pub halves_joined : (columns pairs rows : ℕ) (top bottom : List ℕ) (value : ℕ → ℕ → ℕ)
+    → length top ≡ 2 * pairs * columns
+    → ((x y : ℕ) → x < columns → y < 2 * pairs → slice_index_or top (y * columns + x) 0 ≡ value x (2 * 0 + y))
+    → ((x y : ℕ) → x < columns → y < rows - 2 * pairs
+    → slice_index_or bottom (y * columns + x) 0 ≡ value x (2 * pairs + y)) → (x y : ℕ) → x < columns → y < rows
+    → slice_index_or (top ++ bottom) (y * columns + x) 0 ≡ value x y
+halves_joined columns pairs rows top bottom value long upper lower x y a b = elim (cases_lt y (2 * pairs)) [
+  | inl above ↦ (
+      let place = mul-add-lt y columns x (2 * pairs) above a in
+      let same : 2 * 0 + y ≡ y = omega arith in
+      get_or_append_left top bottom 0 (y * columns + x) (omega (arith, place, long)) ∙ upper x y a above
+      ∙ ap (value x) same)
+  | inr below ↦ (
+      let past : 2 * pairs * columns ≤ y * columns = mul-le-mul_right columns below in
+      let row : (y - 2 * pairs + 2 * pairs) * columns ≡ y * columns =
+      ap (λ n. n * columns) (let whole : y - 2 * pairs + 2 * pairs ≡ y = omega arith in whole) in
+      let place : y * columns + x - length top ≡ (y - 2 * pairs) * columns + x = omega (arith, past, row, long) in
+      let same : 2 * pairs + (y - 2 * pairs) ≡ y = omega arith in
+      get_or-append_right top bottom (y * columns + x) 0 (omega (arith, past, long))
+      ∙ ap (λ n. slice_index_or bottom n 0) place ∙ lower x (y - 2 * pairs) a (omega arith) ∙ ap (value x) same)
+]
+
+pub lower_rows : (rows pairs columns lower : ℕ) → lower + 2 * pairs * columns ≡ rows * columns → 2 * pairs ≤ rows
+    → lower ≡ (rows - 2 * pairs) * columns
+lower_rows rows pairs columns lower whole less =
+    let all : rows - 2 * pairs + 2 * pairs ≡ rows = omega arith in
+    let split : (rows - 2 * pairs + 2 * pairs) * columns ≡ rows * columns = ap (λ n. n * columns) all in
+    omega (arith, split, whole)

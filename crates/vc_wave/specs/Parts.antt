@@ -40,3 +40,8 @@ highest_height p c = lowest_height p c * 2 ^ (p.depth - 1)
 abbrev pub room_length : Parameters → Component → ℕ
 room_length p c =
     2 * (highest_height p c * highest_width p c) + 2 * pairs_held p.wavelet * (2 * highest_width p c)
+
+-- the same where the highest level is made in two halves side by side
+abbrev pub joined_room_length : Parameters → Component → ℕ
+joined_room_length p c =
+    2 * (highest_height p c * highest_width p c) + 2 * (2 * pairs_held p.wavelet * (2 * highest_width p c))

@@ -104,8 +104,8 @@ fn gather(subbands: &Subbands<'_>, first: usize, pairs: usize, window: &mut [i32
 }
 
 /// Gathers a band of a level and synthesises its columns (ST 2042-1, vertical synthesis), as many of its rows
-/// as are wanted. From a bound on all cells of the subbands it tells one on the rows once they are synthesised
-/// too; none where 32 bits may not be enough.
+/// as are wanted. From a bound on all cells of the subbands it tells one on the rows once they are
+/// synthesised too; none where 32 bits may not be enough.
 pub(crate) fn synth_band(
     subbands: &Subbands<'_>,
     band: &Band,

@@ -25,6 +25,6 @@ pub use analysis::forward;
 pub use forward_bounds::forward_fits_narrow;
 pub use laws::inverse_undoes_forward;
 pub use narrow_analysis::forward_narrow;
-pub use output::{Format, inverse_output, room_len};
+pub use output::{Format, inverse_output, inverse_output_joined, joined_room_len, room_len};
 pub use synthesis::inverse;
 pub use turn::{Nesting, nesting_of, row_in_turn};

@@ -110,8 +110,8 @@ pub(crate) fn merge_columns(level: Level, cells: &mut [i32])
     synth_narrow(level.wavelets.down, cells, &halves, 2 * level.w);
 }
 
-/// Puts so many levels across alone together, the lowest of which has these rows. From a bound on all cells it
-/// tells one on them after it; none where 32 bits may not be enough.
+/// Puts so many levels across alone together, the lowest of which has these rows. From a bound on all cells
+/// it tells one on them after it; none where 32 bits may not be enough.
 #[tactic(auto, using(crate::proofs::Levels::level_fits, crate::proofs::Levels::level_some))]
 pub(crate) fn merge_across(
     rows: Rows,

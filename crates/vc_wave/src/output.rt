@@ -11,7 +11,7 @@ ghost use Rattle.vc_lift.specs.Reach.{HoldsPairs};
 ghost use Rattle.vc_wave.specs.declared.pass.Direction.TheVariants.{Synthesis};
 ghost use Rattle.vc_wave.specs.NarrowBounds.{HasBound, RowHasBound, rows_bound};
 ghost use Rattle.vc_wave.specs.Parts.{subbands_of, AreAtMost, pairs_held, held, room_length};
-ghost use Rattle.vc_wave.specs.Parts.{highest_width, highest_height};
+ghost use Rattle.vc_wave.specs.Parts.{highest_width, highest_height, joined_room_length};
 ghost use Rattle.vc_wave.specs.Planes.{plane_of};
 ghost use Rattle.vc_wave.specs.Remade.{half_place, remade, shifted_down};
 
@@ -21,6 +21,7 @@ use crate::lower::merge_below;
 use crate::narrow::shifted_down;
 use crate::parts::{Band, Span, Subbands};
 use crate::shift::is_shifted;
+use std::thread::{Threads, join_mut};
 use vc_geometry::padded;
 use vc_lift::{Halves, synth_narrow};
 use vc_types::{Component, Plan};
@@ -262,6 +263,60 @@ pub fn room_len(plan: &Plan, c: Component) -> usize
     2 * (level.h * level.w) + 2 * pairs_held(plan.wavelet) * (2 * level.w)
 }
 
+/// How many cells `inverse_output_joined` needs to work in.
+pub fn joined_room_len(plan: &Plan, c: Component) -> usize
+    ensures { result ≡ joined_room_length (parameters_of plan.now) c }
+{
+    let level = highest(plan, c);
+    2 * (level.h * level.w) + 2 * (2 * pairs_held(plan.wavelet) * (2 * level.w))
+}
+
+// Makes the upper rows of the highest level beside the lower ones, by join, and fills the plane with their
+// samples, as `put_level` does. Each half has a room of its own.
+fn put_halves<H: Threads>(
+    rt: &H,
+    subbands: &Subbands<'_>,
+    room: &mut [i32],
+    most: u64,
+    samples: &mut [u16],
+    format: Format,
+) -> bool
+    requires room { 2 * (2 * pairs_held subbands.now.level.wavelets.down
+        * (2 * subbands.now.level.w)) ≤ length room.old }
+    requires most { most < 2 ^ 31 }
+    requires within { AreAtMost most (subbands_of subbands.now) }
+    requires depth { (1 ≤ format.depth) × (format.depth ≤ 16) }
+    requires width { format.columns ≤ 2 * subbands.now.level.w }
+    requires height { format.rows ≤ 2 * subbands.now.level.h }
+    requires samples { length samples.old ≡ format.rows * format.columns }
+    ensures { result ≡ true → (x y : ℕ) → x < format.columns → y < format.rows
+        → slice_index_or samples.new (y * format.columns + x) 0
+        ≡ output_sample format.depth (inverse_level subbands.now.level.wavelets.down
+        subbands.now.level.wavelets.across subbands.now.level.w subbands.now.level.h
+        (subbands_of subbands.now) x y) }
+{
+    let held = 2 * pairs_held(subbands.level.wavelets.down) * (2 * subbands.level.w);
+    let pairs = format.rows / 4;
+    let upper = Format {
+        columns: format.columns,
+        rows: 2 * pairs,
+        depth: format.depth,
+    };
+    let lower = Format {
+        columns: format.columns,
+        rows: format.rows - 2 * pairs,
+        depth: format.depth,
+    };
+    let (front, back) = room.split_at_mut(held);
+    let (top, bottom) = samples.split_at_mut(2 * pairs * format.columns);
+    let (first, second) = join_mut(
+        rt,
+        &mut || put_level(subbands, front, most, 0, top, upper),
+        &mut || put_level(subbands, back, most, pairs, bottom, lower),
+    );
+    first && second
+}
+
 // Which of two lists has the samples below a level, where each level goes from one to the other.
 fn held<'a>(level: u8, first: &'a [i32], second: &'a [i32]) -> &'a [i32]
     ensures { result.now ≡ held level first.now second.now }
@@ -272,8 +327,8 @@ fn held<'a>(level: u8, first: &'a [i32], second: &'a [i32]) -> &'a [i32]
 /// The samples of a component's plane from its coefficients, in 32 bits (ST 2042-1, inverse wavelet transform
 /// and picture output): without the padding, clipped, and with half of their range added. The coefficients
 /// stand row by row in nested subbands of the padded size, and are only read. The room is to work in, and
-/// what is in it is of no use before or afterwards. It answers whether 32 bits were enough; where they weren't,
-/// the samples are of no use either.
+/// what is in it is of no use before or afterwards. It answers whether 32 bits were enough; where they
+/// weren't, the samples are of no use either.
 pub fn inverse_output(
     plan: &Plan,
     c: Component,
@@ -309,4 +364,44 @@ pub fn inverse_output(
         nested,
     };
     put_level(&subbands, band, most, 0, samples, format)
+}
+
+/// The same, with the highest level in two halves that are made side by side, by join. The room is larger, and
+/// is there before they begin.
+pub fn inverse_output_joined<H: Threads>(
+    rt: &H,
+    plan: &Plan,
+    c: Component,
+    nested: &[i32],
+    room: &mut [i32],
+    samples: &mut [u16],
+    format: Format,
+) -> bool
+    requires nested { padded_height (parameters_of plan.now) c
+        * padded_width (parameters_of plan.now) c ≤ length nested.now }
+    requires room { joined_room_length (parameters_of plan.now) c ≤ length room.old }
+    requires columns { format.columns ≡ plane_width plan.now.shape c }
+    requires rows { format.rows ≡ plane_height plan.now.shape c }
+    requires depth { format.depth ≡ plane_depth plan.now.shape c }
+    requires range { (1 ≤ format.columns) × (1 ≤ format.rows)
+        × (1 ≤ format.depth) × (format.depth ≤ 16) }
+    requires samples { length samples.old ≡ format.rows * format.columns }
+    ensures { result ≡ true → (x y : ℕ) → x < format.columns → y < format.rows
+        → slice_index_or samples.new (y * format.columns + x) 0
+        ≡ output_sample format.depth (inverse_transform (parameters_of plan.now) c
+        (plane_of (padded_width (parameters_of plan.now) c) nested.now) x y) }
+{
+    let level = highest(plan, c);
+    let count = level.h * level.w;
+    let (low, rest) = room.split_at_mut(count);
+    let (next, bands) = rest.split_at_mut(count);
+    let Some(most) = merge_below(plan, c, nested, low, next, bands) else {
+        return false;
+    };
+    let subbands = Subbands {
+        level,
+        low: held(plan.depth - 1, low, next),
+        nested,
+    };
+    put_halves(rt, &subbands, bands, most, samples, format)
 }

@@ -2,8 +2,8 @@ ghost use Rattle.std.specs.Prelude.{◌*◌, ◌≤◌, length};
 
 use crate::extents::Level;
 
-/// A level's subbands, which are only read. The low one, which is what the levels below it made, stands row by
-/// row in a list of its own; the others stand nested, in rows as far apart as the level says.
+/// A level's subbands, which are only read. The low one, which is what the levels below it made, stands row
+/// by row in a list of its own; the others stand nested, in rows as far apart as the level says.
 #[derive(Clone, Copy)]
 pub(crate) struct Subbands<'a> {
     pub level: Level,

@@ -5,7 +5,7 @@ use Rattle.vc_types.specs.TransformParameters.{Parameters, parameters_of}
 use Rattle.vc_slice.specs.declared.bands.SliceParts.{SliceParts}
 use Rattle.vc_lowdelay.specs.Coded.{slice_of}
 use Rattle.vc_lowdelay.specs.LowDelay.{low_slice, slice_at}
-use Rattle.vc_lowdelay.specs.Narrow.{HasSize}
+use Rattle.vc_lowdelay.specs.Narrow.{HasPaddedSize}
 use Rattle.vc_lowdelay.specs.OfBands.{parameters_in}
 use Rattle.vc_lowdelay.specs.OfPlan.{low_parameters_of}
 use Rattle.vc_lowdelay.proofs.NarrowSlices.{none_in, one_more_in, one_more_sound, all_in}
@@ -14,26 +14,26 @@ use Rattle.vc_lowdelay.proofs.narrow.put_slices.Goals as goal
 
 pub loop-slice-init : goal.loop-slice-init
 loop-slice-init c = record {
-  y = none_in c.args.p.now c.args.bytes.now Y c.args.room.now.y.items c.requires.y;
-  c1 = none_in c.args.p.now c.args.bytes.now C1 c.args.room.now.c1.items c.requires.c1;
-  c2 = none_in c.args.p.now c.args.bytes.now C2 c.args.room.now.c2.items c.requires.c2;
+  y = none_in c.args.p.now c.args.bytes.now Y c.args.room.now.y.items c.requires.room.y;
+  c1 = none_in c.args.p.now c.args.bytes.now C1 c.args.room.now.c1.items c.requires.room.c1;
+  c2 = none_in c.args.p.now c.args.bytes.now C2 c.args.room.now.c2.items c.requires.room.c2;
   sound = λ k h. absurd (omega (arith, h));
 }
 
 pub put_slice-requires-clause-y : goal.put_slice-requires-clause-y
 put_slice-requires-clause-y c =
     let plan : parameters_in c.new-bands.result ≡ parameters_of c.args.p.now.plan = ap (λ (parts : SliceParts). parameters_of parts.plan) c.new-bands.ensures.parts ∙ ap parameters_of c.new-parts.ensures.plan in
-    subst (λ (q : Parameters). HasSize q Y c.loop-slice.room.y.items) (sym plan) c.loop-slice.invariant.y.size
+    subst (λ (q : Parameters). HasPaddedSize q Y c.loop-slice.room.y.items) (sym plan) c.loop-slice.invariant.y.size
 
 pub put_slice-requires-clause-c1 : goal.put_slice-requires-clause-c1
 put_slice-requires-clause-c1 c =
     let plan : parameters_in c.new-bands.result ≡ parameters_of c.args.p.now.plan = ap (λ (parts : SliceParts). parameters_of parts.plan) c.new-bands.ensures.parts ∙ ap parameters_of c.new-parts.ensures.plan in
-    subst (λ (q : Parameters). HasSize q C1 c.loop-slice.room.c1.items) (sym plan) c.loop-slice.invariant.c1.size
+    subst (λ (q : Parameters). HasPaddedSize q C1 c.loop-slice.room.c1.items) (sym plan) c.loop-slice.invariant.c1.size
 
 pub put_slice-requires-clause-c2 : goal.put_slice-requires-clause-c2
 put_slice-requires-clause-c2 c =
     let plan : parameters_in c.new-bands.result ≡ parameters_of c.args.p.now.plan = ap (λ (parts : SliceParts). parameters_of parts.plan) c.new-bands.ensures.parts ∙ ap parameters_of c.new-parts.ensures.plan in
-    subst (λ (q : Parameters). HasSize q C2 c.loop-slice.room.c2.items) (sym plan) c.loop-slice.invariant.c2.size
+    subst (λ (q : Parameters). HasPaddedSize q C2 c.loop-slice.room.c2.items) (sym plan) c.loop-slice.invariant.c2.size
 
 pub loop-slice-preserved : goal.loop-slice-preserved
 loop-slice-preserved c =

@@ -1,4 +1,4 @@
-use Rattle.std.proofs.Common.{rules, ◌≡◌, ◌+◌, ◌*◌, ◌^◌, ◌≤◌, ℕ, List, ℤ, ◌++◌, drop, length, length-take, arith}
+use Rattle.std.proofs.Common.{rules, ◌≡◌, ◌*◌, ◌^◌, ◌≤◌, ℕ, List, ℤ, ◌++◌, drop, length, length-take, arith}
 use Rattle.std.proofs.Math.Nat.{div-mul-le_self, mul-le-mul_right}
 use Rattle.vc_types.specs.Subbands.{padded_width, padded_height}
 use Rattle.vc_types.specs.TransformParameters.{parameters_of}

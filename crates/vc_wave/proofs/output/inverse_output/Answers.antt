@@ -4,7 +4,6 @@ use Rattle.vc_types.specs.Planes.{output_sample}
 use Rattle.vc_types.specs.Subbands.{padded_width, padded_height}
 use Rattle.vc_types.specs.TransformParameters.{parameters_of}
 use Rattle.vc_types.specs.Transforms.{Cells}
-use Rattle.vc_wave.specs.Parts.{held}
 use Rattle.vc_wave.specs.Planes.{plane_of}
 use Rattle.vc_wave.proofs.HighestLevel.{highest_made, plane_across, plane_down}
 use Rattle.vc_wave.proofs.LowCells.{held_long}

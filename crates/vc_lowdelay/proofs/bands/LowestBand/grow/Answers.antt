@@ -2,7 +2,7 @@ use Rattle.std.proofs.Common.{◌≡◌, ℕ, ◌+◌, ◌*◌, ◌^◌, ◌<◌
 use Rattle.std.specs.Int.{w64}
 use Rattle.std.proofs.lemmas.Int.{to_z-of_z}
 use Rattle.vc_types.specs.Rasters.{Lattice}
-use Rattle.vc_lowdelay.specs.Bands.{HasLarge, grown_value, value_in}
+use Rattle.vc_lowdelay.specs.Bands.{HasLargeValue, grown_value, value_in}
 use Rattle.vc_lowdelay.specs.LowDelay.{predicted}
 use Rattle.vc_lowdelay.proofs.GrownRows.{GrownTo, none_grown, one_more, all_grown, row_done, are_small, next_value_is}
 use Rattle.vc_lowdelay.proofs.bands.LowestBand.grow.Goals as goal
@@ -39,7 +39,7 @@ returns-in_err-value-clause-large c =
     let across : x < w = (let wide = ap (λ (b : Lattice). b.width) c.self.view_is in omega (arith, wide, c.loop-x-test.true)) in
     let down : y < h = (let high = ap (λ (b : Lattice). b.height) c.self.view_is in omega (arith, high, c.loop-y-test.true)) in
     let is = next_value_is cells w h c.loop-x.self (y * w + x) c.loop-x.invariant x y (grown_value c.loop-x.self x y) across down refl refl in
-    let has : HasLarge (predicted cells) c.args.self.now = record {
+    let has : HasLargeValue (predicted cells) c.args.self.now = record {
       x = x;
       y = y;
       across = across;

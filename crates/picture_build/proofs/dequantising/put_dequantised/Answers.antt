@@ -1,12 +1,13 @@
-use Rattle.std.proofs.Common.{arith, ◌<◌, ◌≤◌, ◌^◌, ℕ, unsigned_abs, refl, sym, subst, ◌∙◌, ◌+◌, length}
+use Rattle.std.proofs.Common.{arith, ◌<◌, ◌≤◌, ℕ, unsigned_abs, refl, sym, ◌∙◌, ◌+◌, length}
 use Rattle.vc_types.specs.Lifting.{line_of}
 use Rattle.vc_types.specs.Subbands.{area}
 use Rattle.vc_types.specs.TransformParameters.{parameters_of}
 use Rattle.vc_types.proofs.SliceRectangles.{coefficients_before-none, coefficients_before-all}
-use Rattle.picture_build.proofs.DequantisedNumbers.{coefficient, coefficient_in, narrow_more}
+use Rattle.picture_build.proofs.DequantisedNumbers.{coefficient_in, narrow_more}
 use Rattle.picture_build.proofs.RowsWithin.{few_cells, rows_within}
 use Rattle.picture_build.proofs.PlacedNumbers.{subband_within, from_more, subband_stands, subband_stays, all_stand}
-use Rattle.picture_build.proofs.filling.dequantise_numbers.Goals as goal
+use Rattle.picture_build.specs.PartsKept.{numbered_in}
+use Rattle.picture_build.proofs.dequantising.put_dequantised.Goals as goal
 
 pub loop-b-init : goal.loop-b-init
 loop-b-init c = record {
@@ -16,6 +17,12 @@ loop-b-init c = record {
   off = λ k none. refl;
   length = refl;
 }
+
+pub put_rect-requires-clause-cells : goal.put_rect-requires-clause-cells
+put_rect-requires-clause-cells c =
+    let r = c.rect-rect.result in
+    rows_within (r.y + r.height) c.padded-width.result.0 _ _ (length c.args.cells.now) (length c.loop-b.cells)
+    c.rect-rect.ensures.bottom c.padded-width.ensures.width c.requires.cells c.loop-b.invariant.length
 
 pub put_rect-requires-clause-from : goal.put_rect-requires-clause-from
 put_rect-requires-clause-from c =
@@ -27,6 +34,12 @@ put_rect-requires-clause-small c = λ j h.
     let within = subband_within c.args.bands.now.parts.now c.args.c c.loop-b.b c.loop-b.from c.rect-rect.result (omega arith) c.rect-rect.ensures.value c.loop-b.invariant.from in
     rw c.in-Some.ensures.same.1 (c.requires.small (c.loop-b.from + j) (omega (arith, within)))
 
+pub overflow_mul-from : goal.overflow_mul-from
+overflow_mul-from c =
+    let r = c.rect-rect.result in
+    let few = few_cells r.x r.y r.width r.height c.rect-rect.ensures.range in
+    omega (arith, few)
+
 pub overflow_add-from : goal.overflow_add-from
 overflow_add-from c =
     let within = subband_within c.args.bands.now.parts.now c.args.c c.loop-b.b c.loop-b.from c.rect-rect.result (omega arith) c.rect-rect.ensures.value c.loop-b.invariant.from in
@@ -37,9 +50,9 @@ loop-b-preserved c =
     let bands = c.args.bands.now in
     let parts = bands.parts.now in
     let numbers = c.args.numbers.now in
-    let coeffs = coefficient bands c.args.c numbers in
+    let coeffs = numbered_in bands c.args.c numbers in
     let r = c.rect-rect.result in
-    let new = c.put_rect.new.self in
+    let new = c.put_rect.new.cells in
     let q = c.in-Some.quantiser in
     let own = c.in-Some.ensures.same.0 ∙ c.quantiser.ensures in
     let within = subband_within parts c.args.c c.loop-b.b c.loop-b.from r (omega arith) c.rect-rect.ensures.value c.loop-b.invariant.from in
@@ -55,28 +68,18 @@ loop-b-preserved c =
       length = c.put_rect.ensures.length ∙ c.loop-b.invariant.length;
     }
 
-pub returns-clause-on : goal.returns-clause-on
-returns-clause-on c = all_stand c.args.bands.now.parts.now c.args.c c.loop-b.b c.loop-b.from (coefficient c.args.bands.now c.args.c c.args.numbers.now) c.loop-b.cells (omega arith) c.loop-b.invariant.from c.loop-b.invariant.on
+pub returns-clause-all : goal.returns-clause-all
+returns-clause-all c =
+    let bands = c.args.bands.now in
+    let all = coefficients_before-all (parameters_of bands.parts.now.plan) c.args.c bands.parts.now.slice c.loop-b.b (omega arith) in
+    record {
+      on = all_stand bands.parts.now c.args.c c.loop-b.b c.loop-b.from (numbered_in bands c.args.c c.args.numbers.now) c.loop-b.cells (omega arith) c.loop-b.invariant.from c.loop-b.invariant.on;
+      narrow = λ i h. c.loop-b.invariant.narrow i (omega (arith, h, all, c.loop-b.invariant.from));
+      only = record { length = c.loop-b.invariant.length; others = c.loop-b.invariant.off };
+    }
 
-pub returns-clause-narrow : goal.returns-clause-narrow
-returns-clause-narrow c = λ i h.
-    let all = coefficients_before-all (parameters_of c.args.bands.now.parts.now.plan) c.args.c c.args.bands.now.parts.now.slice c.loop-b.b (omega arith) in
-    subst (λ z. unsigned_abs z < 2 ^ 29) (sym (returns-clause-on c i h)) (c.loop-b.invariant.narrow i (omega (arith, all, c.loop-b.invariant.from)))
+pub returns-clause-only : goal.returns-clause-only
+returns-clause-only c = record { length = c.loop-b.invariant.length; others = c.loop-b.invariant.off }
 
-pub put_rect-requires-clause-cells : goal.put_rect-requires-clause-cells
-put_rect-requires-clause-cells c =
-    let r = c.rect-rect.result in
-    rows_within (r.y + r.height) c.padded-width.result.0 _ _ (length c.args.cells.now) (length c.loop-b.cells)
-    c.rect-rect.ensures.bottom c.padded-width.ensures.width c.requires.cells c.loop-b.invariant.length
-
-pub overflow_mul-from : goal.overflow_mul-from
-overflow_mul-from c =
-    let r = c.rect-rect.result in
-    let few = few_cells r.x r.y r.width r.height c.rect-rect.ensures.range in
-    omega (arith, few)
-
-pub returns-clause-off : goal.returns-clause-off
-returns-clause-off c = c.loop-b.invariant.off
-
-pub returns-in_default-clause-off : goal.returns-in_default-clause-off
-returns-in_default-clause-off c = c.loop-b.invariant.off
+pub returns-in_default-clause-only : goal.returns-in_default-clause-only
+returns-in_default-clause-only c = record { length = c.loop-b.invariant.length; others = c.loop-b.invariant.off }

@@ -1,6 +1,6 @@
 use Rattle.vc_types.specs.TransformParameters.{parameters_of}
 use Rattle.picture_build.proofs.InCells.{three_planes}
-use Rattle.picture_build.proofs.finishing.AtOnceTransform.planes.Goals as goal
+use Rattle.picture_build.proofs.finishing.planes_at_once.Goals as goal
 
 pub returns : goal.returns
 returns g c = λ slices all.
