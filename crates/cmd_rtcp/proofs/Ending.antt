@@ -3,7 +3,7 @@ use Rattle.std.proofs.Common.{◌≡◌, ℕ, Bool, true, false, List, [], ◌�
 use Rattle.std.specs.Prelude.{IfOk, Result, if◌then◌else◌}
 use Rattle.link_model.specs.Packets.{RtpPacket}
 use Rattle.link_outside.specs.Outlets.{capture_of}
-use Rattle.rtcp_reports.specs.Reports.{Reporting, Followed, ends, packets_of, report_entries, reports_on, with_report}
+use Rattle.rtcp_reports.specs.Reports.{Reporting, Followed, with_last_report, packets_of, report_entries, reports_on, with_report}
 use Rattle.vc_types.specs.declared.memory.NoMemory.{NoMemory}
 use Rattle.cmd_rtcp.specs.Pieces.{piece_bytes}
 use Rattle.cmd_rtcp.specs.Reporters.{HasReported, HasSummedUp, packets_counted, reports_counted}
@@ -18,18 +18,18 @@ use Rattle.cmd_rtcp.specs.declared.source.Source.{Source}
 
 module _ (r : Reporting) (source : ℕ) (f : Followed) (s : Source) where
   pub last_report : (piece : Piece) → f.is_due ≡ true → Makes s source f (with_report r source f) piece
-      → Makes s source f (ends r source f) piece
+      → Makes s source f (with_last_report r source f) piece
   last_report piece due m =
       subst (λ (b : Bool). Makes s source f (if b then with_report r source f else f) piece) (sym due) m
 
-  pub no_last : f.is_due ≡ false → IsKept s source f → Makes s source f (ends r source f) Nothing
+  pub no_last : f.is_due ≡ false → IsKept s source f → Makes s source f (with_last_report r source f) Nothing
   no_last due k =
       subst (λ (b : Bool). Makes s source f (if b then with_report r source f else f) Nothing) (sym due)
       (record { kept = k; made = sym (append-nil (capture_of f.reports)) })
 
 pub last_reports : (r : Reporting) (old new : Source) (result : Result Piece NoMemory) → old.is_due ≡ true
     → IfOk result (λ piece. (source : ℕ) (f : Followed) → IsKept old source f → Makes new source f (with_report r source f) piece)
-    → IfOk result (λ piece. (source : ℕ) (f : Followed) → IsKept old source f → Makes new source f (ends r source f) piece)
+    → IfOk result (λ piece. (source : ℕ) (f : Followed) → IsKept old source f → Makes new source f (with_last_report r source f) piece)
 last_reports r old new (Ok piece) due makes = λ source f k.
     last_report r source f new piece (sym k.is_due ∙ due) (makes source f k)
 last_reports r old new (Err none) due makes = makes
@@ -48,7 +48,7 @@ module _ (r : Reporting) (n : ℕ) where
   none_at_end (p ∷ ps) k = absurd k
 
   pub some_at_end : (s now : Source) (piece : Piece)
-      → ((source : ℕ) (f : Followed) → IsKept s source f → Makes now source f (ends r source f) piece)
+      → ((source : ℕ) (f : Followed) → IsKept s source f → Makes now source f (with_last_report r source f) piece)
       → (packets : List RtpPacket) → KeepsSource r (Some s) packets n → SumsUp r packets (Some now) piece
   some_at_end s now piece makes [] k = absurd k
   some_at_end s now piece makes (p ∷ ps) k =
@@ -77,7 +77,7 @@ module _ (x y : Reporter) (piece : Piece)
 -- there is a source
 pub ends_ok : (x y : Reporter) (s now : Source) (result : Result Piece NoMemory) → x.source ≡ Some s → y.source ≡ Some now
     → IfOk result (λ piece. (source : ℕ) (f : Followed) → IsKept s source f
-    → Makes now source f (ends (reporting_of x.settings) source f) piece)
+    → Makes now source f (with_last_report (reporting_of x.settings) source f) piece)
     → IfOk result (λ piece. (first : Reporter) (heard : List (List ℕ)) → HasReported (reporting_of first.settings) x heard
     → HasSummedUp (reporting_of first.settings) y heard
     × (capture_of (report_entries (reporting_of first.settings) heard)

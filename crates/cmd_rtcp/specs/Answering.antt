@@ -6,8 +6,9 @@ use Rattle.link_report.specs.declared.ending.Ending.{Ending}
 use Rattle.link_report.specs.declared.ending.Ending.TheVariants.{InputFailed, NoMemory, OutputFailed}
 use Rattle.vc_ports.specs.Changes.{InputChange, OutputChange, HasRisen, Took, Wrote, WrotePart}
 
--- What is written of the datagrams of the bytes that were given was written, and where the input came to its end,
--- the value is the one that is theirs; or memory ran out or a write failed, and a part of it was written.
+-- What is written of the datagrams of the bytes that were given was written, and where the input came to
+-- its end, the value is the one that is theirs; or memory ran out or a write failed, and a part of it was
+-- written.
 abbrev pub InputAnswered : {A : Type 0} → (written : List (List ℕ) → List ℕ)
     → (is : A → List (List ℕ) → Type 0) → InputForm → (packets : ℕ) → Result A Ending → InputChange
     → OutputChange → (given : List ℕ) → Type 0

@@ -6,7 +6,7 @@ use Rattle.std.specs.List.{cons_option, filter, filter_map}
 use Rattle.std.proofs.lemmas.List.Elements.{filter-append, filter_map-append}
 use Rattle.std.proofs.lemmas.List.Sums.{fold-append}
 use Rattle.link_model.specs.Packets.{RtpPacket, rtp_packet}
-use Rattle.rtcp_reports.specs.Reports.{Reporting, Followed, accepted, ends, followed_from}
+use Rattle.rtcp_reports.specs.Reports.{Reporting, Followed, accepted, with_last_report, followed_from}
 use Rattle.rtcp_reports.specs.Reports.{follows, packets_of, packets_of_first, report_on, with_packet}
 use Rattle.rtcp_reports.specs.Reports.{with_report}
 use Rattle.cmd_rtcp.specs.Sources.{followed_behind, packets_with}
@@ -96,14 +96,14 @@ module _ (r : Reporting) (source : ℕ) where
       by_test true = (report_on r source (with_packet f p) ∷ [], refl)
       by_test false = ([], sym (append-nil f.reports))
 
-  pub ends_extends : (f : Followed) → Extends (ends r source f).reports f.reports
+  pub ends_extends : (f : Followed) → Extends (with_last_report r source f).reports f.reports
   ends_extends f = by_test f.is_due
     where
       by_test : (due : Bool) → Extends (if due then with_report r source f else f).reports f.reports
       by_test true = (report_on r source f ∷ [], refl)
       by_test false = ([], sym (append-nil f.reports))
 
-  pub ends_packets : (f : Followed) → (ends r source f).packets ≡ f.packets
+  pub ends_packets : (f : Followed) → (with_last_report r source f).packets ≡ f.packets
   ends_packets f = by_test f.is_due
     where
       by_test : (due : Bool) → (if due then with_report r source f else f).packets ≡ f.packets

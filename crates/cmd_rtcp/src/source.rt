@@ -1,5 +1,5 @@
 ghost use Rattle.std.specs.Prelude.{◌≡◌, ◌≤◌, ◌<◌, ◌+◌, ◌-◌, ◌%◌, ◌^◌, ℕ, length, IfOk, OnOk, option_copied};
-ghost use Rattle.rtcp_reports.specs.Reports.{Followed, block_on, ends, followed_from};
+ghost use Rattle.rtcp_reports.specs.Reports.{Followed, block_on, with_last_report, followed_from};
 ghost use Rattle.rtcp_reports.specs.Reports.{follows, with_packet, with_report};
 ghost use Rattle.rtcp_reports.specs.Rtcp.{LossFitsIn};
 ghost use Rattle.rtcp_reports.specs.Tracks.{reported};
@@ -83,7 +83,7 @@ impl Source {
         requires few { self.old.reports ≤ 2 ^ 32 }
         ensures fits { IfOk result EntryFits }
         ensures makes { IfOk result (λ piece. (source : ℕ) (f : Followed) → IsKept self.old source f
-            → Makes self.new source f (ends (reporting_of settings.now) source f) piece) }
+            → Makes self.new source f (with_last_report (reporting_of settings.now) source f) piece) }
     {
         if self.is_due {
             self.report(alloc, settings)

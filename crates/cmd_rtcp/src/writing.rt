@@ -72,11 +72,11 @@ impl<'a, 'b, S: Scribe, O: Sink> Listener for Writing<'a, 'b, S, O> {
         self.datagrams < MOST
     }
 
-    fn hear(&mut self, datagram: Bytes) -> Result<(), ListenerFault> {
+    fn hear(&mut self, datagram: Bytes) -> Result<bool, ListenerFault> {
         let piece = self.scribe.take(datagram.as_slice());
         write_piece(self.output, piece)?;
         self.datagrams += 1;
-        Ok(())
+        Ok(true)
     }
 
     ghost none = { λ x. ((refl, refl), none_heard S.has_heard S.due _) };

@@ -2,16 +2,16 @@
 use Rattle.std.proofs.Common.{◌≡◌, ℕ, ◌+◌, ◌-◌, ◌%◌, ◌^◌, ◌<◌, ◌≤◌, max, Bool, true, false, List, [], ◌∷◌, length, refl, ap, ap₂, arith, inl, inr}
 use Rattle.std.proofs.lemmas.Bool.{cases_lt, lt-ltb, le-ltb, eq-eqb}
 use Rattle.rtcp_reports.proofs.Judging.{ordered, late}
-use Rattle.rtcp_reports.specs.Tracks.{Tracked, fresh, restarted, counted, wrapped, tried, advanced, judged, met, updated, extended, expected, loss, block_of, Arrive, tracked_on, tracked_from, greatest_of}
+use Rattle.rtcp_reports.specs.Tracks.{Tracked, fresh, restarted, packet_counted, wrapped, tried, advanced, sequenced, update_counted, updated, extended, expected, loss, block_of, Arrive, tracked_on, tracked_from, greatest_of}
 
 -- ---- one packet
 
-first_try : (t : Tracked) (number : ℕ) → t.probation ≡ 2 → number ≡ (t.greatest + 1) % 65536 → judged t number ≡ (record t { probation = t.probation - 1; greatest = number }, false)
-unfolding judged tried
+first_try : (t : Tracked) (number : ℕ) → t.probation ≡ 2 → number ≡ (t.greatest + 1) % 65536 → sequenced t number ≡ (record t { probation = t.probation - 1; greatest = number }, false)
+unfolding sequenced tried
 first_try t number p e = rw (p, eq-eqb number ((t.greatest + 1) % 65536) e) refl
 
-last_try : (t : Tracked) (number : ℕ) → t.probation ≡ 1 → number ≡ (t.greatest + 1) % 65536 → judged t number ≡ (counted (record (restarted number t) { probation = 0 }), true)
-unfolding judged tried
+last_try : (t : Tracked) (number : ℕ) → t.probation ≡ 1 → number ≡ (t.greatest + 1) % 65536 → sequenced t number ≡ (packet_counted (record (restarted number t) { probation = 0 }), true)
+unfolding sequenced tried
 last_try t number p e = rw (p, eq-eqb number ((t.greatest + 1) % 65536) e) refl
 
 -- ---- many
@@ -32,7 +32,7 @@ wrapped_is g n above below = elim (cases_lt (n % 65536) (g % 65536)) [
   | inr more ↦ let e = le-ltb (n % 65536) (g % 65536) more in rw e (omega arith)
 ]
 
-forward : (t : Tracked) (first greatest count number : ℕ) → Stands t first greatest count → greatest ≤ number → number < greatest + 3000 → Stands (counted (advanced (met t) (number % 65536))) first number (count + 1)
+forward : (t : Tracked) (first greatest count number : ℕ) → Stands t first greatest count → greatest ≤ number → number < greatest + 3000 → Stands (packet_counted (advanced (update_counted t) (number % 65536))) first number (count + 1)
 unfolding advanced
 forward t first greatest count number s low high = record {
   probation = s.probation;
@@ -43,7 +43,7 @@ forward t first greatest count number s low high = record {
   above = omega (arith, s.above);
 }
 
-backward : (t : Tracked) (first greatest count : ℕ) → Stands t first greatest count → Stands (counted (met t)) first greatest (count + 1)
+backward : (t : Tracked) (first greatest count : ℕ) → Stands t first greatest count → Stands (packet_counted (update_counted t)) first greatest (count + 1)
 backward t first greatest count s = record {
   probation = s.probation;
   base = s.base;
@@ -56,11 +56,11 @@ backward t first greatest count s = record {
 one_more : (t : Tracked) (first greatest count number : ℕ) → Stands t first greatest count → greatest < number + 100 → number < greatest + 3000 → Stands (updated t (number % 65536)).0 first (max greatest number) (count + 1)
 one_more t first greatest count number s low high = elim (cases_lt number greatest) [
   | inl below ↦
-      let same_packets : judged (met t) (number % 65536) ≡ (counted (met t), true) = late (met t) (number % 65536) s.probation (omega (arith, s.greatest)) in
+      let same_packets : sequenced (update_counted t) (number % 65536) ≡ (packet_counted (update_counted t), true) = late (update_counted t) (number % 65536) s.probation (omega (arith, s.greatest)) in
       let same : max greatest number ≡ greatest = omega arith in
       rw (same_packets, same) (backward t first greatest count s)
   | inr above ↦
-      let order : judged (met t) (number % 65536) ≡ (counted (advanced (met t) (number % 65536)), true) = ordered (met t) (number % 65536) s.probation (omega (arith, s.greatest)) in
+      let order : sequenced (update_counted t) (number % 65536) ≡ (packet_counted (advanced (update_counted t) (number % 65536)), true) = ordered (update_counted t) (number % 65536) s.probation (omega (arith, s.greatest)) in
       let same : max greatest number ≡ number = omega arith in
       rw (order, same) (forward t first greatest count number s above high)
 ]
@@ -75,14 +75,14 @@ all_stand t first greatest count (number ∷ numbers) s arrive =
 
 -- ---- the first two
 
-tried_once : (first : ℕ) → (updated (fresh (first % 65536)) (first % 65536)).0 ≡ record (met (fresh (first % 65536))) { probation = 1; greatest = first % 65536 }
+tried_once : (first : ℕ) → (updated (fresh (first % 65536)) (first % 65536)).0 ≡ record (update_counted (fresh (first % 65536))) { probation = 1; greatest = first % 65536 }
 unfolding fresh
-tried_once first = ap (λ (r : Tracked × Bool). r.0) (first_try (met (fresh (first % 65536))) (first % 65536) refl (omega arith))
+tried_once first = ap (λ (r : Tracked × Bool). r.0) (first_try (update_counted (fresh (first % 65536))) (first % 65536) refl (omega arith))
 
 tried_twice : (t : Tracked) (first : ℕ) → t.probation ≡ 1 → t.greatest ≡ first % 65536 → Stands (updated t ((first + 1) % 65536)).0 (first + 1) (first + 1) 1
 unfolding restarted
 tried_twice t first p g =
-    let e = last_try (met t) ((first + 1) % 65536) p (omega (arith, g)) in
+    let e = last_try (update_counted t) ((first + 1) % 65536) p (omega (arith, g)) in
     rw e (record {
       probation = refl;
       base = refl;
@@ -94,7 +94,7 @@ tried_twice t first p g =
 
 stands : (first : ℕ) (numbers : List ℕ) → Arrive (first + 1) numbers → Stands (tracked_from first ((first + 1) ∷ numbers)) (first + 1) (greatest_of (first + 1) numbers) (1 + length numbers)
 stands first numbers arrive =
-    let once : Tracked = record (met (fresh (first % 65536))) { probation = 1; greatest = first % 65536 } in
+    let once : Tracked = record (update_counted (fresh (first % 65536))) { probation = 1; greatest = first % 65536 } in
     let two = all_stand (updated once ((first + 1) % 65536)).0 (first + 1) (first + 1) 1 numbers (tried_twice once first refl refl) arrive in
     rw (tried_once first) two
 

@@ -1,7 +1,7 @@
 -- What is kept goes on being counted within its bounds.
 use Rattle.std.proofs.Common.{◌≡◌, ◌≢◌, ℕ, ◌+◌, ◌^◌, ◌<◌, ◌≤◌, refl, sym, subst, arith, inl, inr}
 use Rattle.std.proofs.lemmas.Bool.{cases_lt, lt-ltb, le-ltb}
-use Rattle.rtcp_reports.specs.Tracks.{Tracked, restarted, counted, wrapped, met, expected}
+use Rattle.rtcp_reports.specs.Tracks.{Tracked, restarted, packet_counted, wrapped, update_counted, expected}
 use Rattle.rtcp_reports.specs.Views.{HasCounted}
 
 -- ---- an update
@@ -17,8 +17,8 @@ module _ (t s : Tracked) (is : t ≡ s) (few : s.updates < 2 ^ 32) (h : HasCount
   few_inside : t.updates < 2 ^ 32
   few_inside = subst (λ (x : Tracked). x.updates < 2 ^ 32) (sym is) few
 
-  pub counted-met : HasCounted (met t)
-  counted-met = record {
+  pub counted-update : HasCounted (update_counted t)
+  counted-update = record {
     updates = omega (arith, few_inside);
     cycles = omega (arith, h.cycles);
     received = omega (arith, h.received);
@@ -29,7 +29,7 @@ module _ (t s : Tracked) (is : t ≡ s) (few : s.updates < 2 ^ 32) (h : HasCount
   }
 
   -- late, or a duplicate
-  pub counted-late : HasCounted (counted (met t))
+  pub counted-late : HasCounted (packet_counted (update_counted t))
   counted-late = record {
     updates = omega (arith, few_inside);
     cycles = omega (arith, h.cycles);
@@ -58,7 +58,7 @@ module _ (t s : Tracked) (is : t ≡ s) (few : s.updates < 2 ^ 32) (h : HasCount
 
 -- ---- a restart
 
-pub counted-restarted : (t u : Tracked) (number probation : ℕ) → 1 ≤ t.updates → t.updates ≤ 2 ^ 32 → u ≡ counted (restarted number t) → HasCounted (record u { probation = probation })
+pub counted-restarted : (t u : Tracked) (number probation : ℕ) → 1 ≤ t.updates → t.updates ≤ 2 ^ 32 → u ≡ packet_counted (restarted number t) → HasCounted (record u { probation = probation })
 unfolding restarted
 counted-restarted t u number probation some few is =
     subst (λ (x : Tracked). HasCounted (record x { probation = probation })) (sym is) (record {
@@ -73,13 +73,13 @@ counted-restarted t u number probation some few is =
 
 -- as it stands then, and one that ends the probation
 module _ (t s : Tracked) (number : ℕ) (is : t ≡ s) (some : 1 ≤ s.updates) (h : HasCounted t) where
-  pub counted-anew : HasCounted (counted (restarted number t))
+  pub counted-anew : HasCounted (packet_counted (restarted number t))
   unfolding restarted
   counted-anew =
       let met_some : 1 ≤ t.updates = subst (λ (x : Tracked). 1 ≤ x.updates) (sym is) some in
-      counted-restarted t (counted (restarted number t)) number t.probation met_some h.updates refl
+      counted-restarted t (packet_counted (restarted number t)) number t.probation met_some h.updates refl
 
-  pub counted-off : (u : Tracked) → u ≡ counted (restarted number s) → HasCounted (record u { probation = 0 })
+  pub counted-off : (u : Tracked) → u ≡ packet_counted (restarted number s) → HasCounted (record u { probation = 0 })
   counted-off u anew =
       counted-restarted s u number 0 some (subst (λ (x : Tracked). x.updates ≤ 2 ^ 32) is h.updates) anew
 

@@ -2,7 +2,7 @@
 use Rattle.std.proofs.Common.{◌≡◌, ◌≢◌, ℕ, ◌+◌, ◌-◌, ◌%◌, ◌<◌, ◌≤◌, Bool, true, false, if◌then◌else◌, refl, sym, subst, ap, ◌∙◌, arith}
 use Rattle.std.specs.Prelude.{not, ◌==◌, nat_lt, nat_le}
 use Rattle.std.proofs.lemmas.Bool.{lt-ltb, le-ltb, le-leb, lt-leb, eq-eqb, ne_eqb}
-use Rattle.rtcp_reports.specs.Tracks.{Tracked, fresh, restarted, counted, ahead, wrapped, tried, advanced, jumped, judged, met, updated}
+use Rattle.rtcp_reports.specs.Tracks.{Tracked, fresh, restarted, packet_counted, ahead, wrapped, tried, advanced, jumped, sequenced, update_counted, updated}
 
 -- ---- before the first packet
 
@@ -25,21 +25,21 @@ starts number greatest is = rw is refl
 
 -- ---- off probation, and on it
 
-on_probation : (t : Tracked) (number : ℕ) → t.probation ≢ 0 → judged t number ≡ tried t number
-unfolding judged
+on_probation : (t : Tracked) (number : ℕ) → t.probation ≢ 0 → sequenced t number ≡ tried t number
+unfolding sequenced
 on_probation t number some = rw (ne_eqb t.probation 0 some) refl
 
-pub ordered : (t : Tracked) (number : ℕ) → t.probation ≡ 0 → ahead t.greatest number < 3000 → judged t number ≡ (counted (advanced t number), true)
-unfolding judged
+pub ordered : (t : Tracked) (number : ℕ) → t.probation ≡ 0 → ahead t.greatest number < 3000 → sequenced t number ≡ (packet_counted (advanced t number), true)
+unfolding sequenced
 ordered t number none near = rw (none, lt-ltb (ahead t.greatest number) 3000 near) refl
 
-far : (t : Tracked) (number : ℕ) → t.probation ≡ 0 → 3000 ≤ ahead t.greatest number → ahead t.greatest number ≤ 65436 → judged t number ≡ jumped t number
-unfolding judged
+far : (t : Tracked) (number : ℕ) → t.probation ≡ 0 → 3000 ≤ ahead t.greatest number → ahead t.greatest number ≤ 65436 → sequenced t number ≡ jumped t number
+unfolding sequenced
 far t number none above below =
     rw (none, le-ltb (ahead t.greatest number) 3000 above, le-leb (ahead t.greatest number) 65436 below) refl
 
-pub late : (t : Tracked) (number : ℕ) → t.probation ≡ 0 → 65436 < ahead t.greatest number → judged t number ≡ (counted t, true)
-unfolding judged
+pub late : (t : Tracked) (number : ℕ) → t.probation ≡ 0 → 65436 < ahead t.greatest number → sequenced t number ≡ (packet_counted t, true)
+unfolding sequenced
 late t number none behind =
     rw (none, le-ltb (ahead t.greatest number) 3000 (omega arith), lt-leb (ahead t.greatest number) 65436 behind) refl
 
@@ -52,26 +52,26 @@ yes t = (t, true)
 abbrev yes_off_probation : Tracked → Tracked × Bool
 yes_off_probation t = (record t { probation = 0 }, true)
 
-advances : (t : Tracked) (number more : ℕ) → more ≡ wrapped t.greatest number → counted (advanced (met t) number) ≡ record t { cycles = t.cycles + more; greatest = number; received = t.received + 1; updates = t.updates + 1 }
+advances : (t : Tracked) (number more : ℕ) → more ≡ wrapped t.greatest number → packet_counted (advanced (update_counted t) number) ≡ record t { cycles = t.cycles + more; greatest = number; received = t.received + 1; updates = t.updates + 1 }
 unfolding advanced
 advances t number more grows = rw grows refl
 
 module _ (t s : Tracked) (number : ℕ) (is : t ≡ s) where
-  judges : (r : Tracked × Bool) → judged (met t) number ≡ r → updated s number ≡ r
+  judges : (r : Tracked × Bool) → sequenced (update_counted t) number ≡ r → updated s number ≡ r
   judges r e = subst (λ (x : Tracked). updated x number ≡ r) is e
 
-  pub tries : (r : Tracked × Bool) → t.probation ≢ 0 → tried (met t) number ≡ r → updated s number ≡ r
-  tries r some e = judges r (on_probation (met t) number some ∙ e)
+  pub tries : (r : Tracked × Bool) → t.probation ≢ 0 → tried (update_counted t) number ≡ r → updated s number ≡ r
+  tries r some e = judges r (on_probation (update_counted t) number some ∙ e)
 
   pub orders : (more : ℕ) → t.probation ≡ 0 → ahead t.greatest number < 3000 → more ≡ wrapped t.greatest number
       → updated s number ≡ (record t { cycles = t.cycles + more; greatest = number; received = t.received + 1; updates = t.updates + 1 }, true)
-  orders more none near grows = judges _ (ordered (met t) number none near ∙ ap yes (advances t number more grows))
+  orders more none near grows = judges _ (ordered (update_counted t) number none near ∙ ap yes (advances t number more grows))
 
-  pub jumps : (r : Tracked × Bool) → t.probation ≡ 0 → 3000 ≤ ahead t.greatest number → ahead t.greatest number ≤ 65436 → jumped (met t) number ≡ r → updated s number ≡ r
-  jumps r none above below e = judges r (far (met t) number none above below ∙ e)
+  pub jumps : (r : Tracked × Bool) → t.probation ≡ 0 → 3000 ≤ ahead t.greatest number → ahead t.greatest number ≤ 65436 → jumped (update_counted t) number ≡ r → updated s number ≡ r
+  jumps r none above below e = judges r (far (update_counted t) number none above below ∙ e)
 
-  pub lates : t.probation ≡ 0 → 65436 < ahead t.greatest number → updated s number ≡ (counted (met t), true)
-  lates none behind = judges (counted (met t), true) (late (met t) number none behind)
+  pub lates : t.probation ≡ 0 → 65436 < ahead t.greatest number → updated s number ≡ (packet_counted (update_counted t), true)
+  lates none behind = judges (packet_counted (update_counted t), true) (late (update_counted t) number none behind)
 
 -- ---- a packet on probation, and a jump
 
@@ -83,7 +83,7 @@ first_tried : (t : Tracked) (number : ℕ) → number ≡ (t.greatest + 1) % 655
 unfolding tried
 first_tried t number next more = rw (eq-eqb number ((t.greatest + 1) % 65536) next, ne_eqb t.probation 1 more) refl
 
-last_tried : (t : Tracked) (number : ℕ) → number ≡ (t.greatest + 1) % 65536 → t.probation ≡ 1 → tried t number ≡ yes_off_probation (counted (restarted number t))
+last_tried : (t : Tracked) (number : ℕ) → number ≡ (t.greatest + 1) % 65536 → t.probation ≡ 1 → tried t number ≡ yes_off_probation (packet_counted (restarted number t))
 unfolding tried
 last_tried t number next one = rw (eq-eqb number ((t.greatest + 1) % 65536) next, one) refl
 
@@ -91,7 +91,7 @@ jumped_once : (t : Tracked) (number next : ℕ) → number ≢ t.bad → next �
 unfolding jumped
 jumped_once t number next other is = rw (ne_eqb number t.bad other, is) refl
 
-jumped_twice : (t : Tracked) (number : ℕ) → number ≡ t.bad → jumped t number ≡ yes (counted (restarted number t))
+jumped_twice : (t : Tracked) (number : ℕ) → number ≡ t.bad → jumped t number ≡ yes (packet_counted (restarted number t))
 unfolding jumped
 jumped_twice t number same = rw (eq-eqb number t.bad same) refl
 
@@ -102,8 +102,8 @@ module _ (t s : Tracked) (number : ℕ) (is : t ≡ s) where
   jumped_as : (r : Tracked × Bool) → jumped t number ≡ r → jumped s number ≡ r
   jumped_as r e = subst (λ (x : Tracked). jumped x number ≡ r) is e
 
-  anew : (new : Tracked) → new ≡ counted (restarted number s) → counted (restarted number t) ≡ new
-  anew new e = ap (λ (x : Tracked). counted (restarted number x)) is ∙ sym e
+  anew : (new : Tracked) → new ≡ packet_counted (restarted number s) → packet_counted (restarted number t) ≡ new
+  anew new e = ap (λ (x : Tracked). packet_counted (restarted number x)) is ∙ sym e
 
   pub tries_other : number ≢ (t.greatest + 1) % 65536 → tried s number ≡ (record t { probation = 1; greatest = number }, false)
   tries_other other = tried_as _ (other_tried t number other)
@@ -111,13 +111,13 @@ module _ (t s : Tracked) (number : ℕ) (is : t ≡ s) where
   pub tries_first : number ≡ (t.greatest + 1) % 65536 → t.probation ≢ 1 → tried s number ≡ (record t { probation = t.probation - 1; greatest = number }, false)
   tries_first next more = tried_as _ (first_tried t number next more)
 
-  pub tries_last : (u : Tracked) → number ≡ (t.greatest + 1) % 65536 → t.probation ≡ 1 → u ≡ counted (restarted number s) → tried s number ≡ (record u { probation = 0 }, true)
+  pub tries_last : (u : Tracked) → number ≡ (t.greatest + 1) % 65536 → t.probation ≡ 1 → u ≡ packet_counted (restarted number s) → tried s number ≡ (record u { probation = 0 }, true)
   tries_last u next one e = tried_as _ (last_tried t number next one ∙ ap yes_off_probation (anew u e))
 
   pub jumps_once : (next : ℕ) → number ≢ t.bad → next ≡ (number + 1) % 65536 → jumped s number ≡ (record t { bad = next }, false)
   jumps_once next other e = jumped_as _ (jumped_once t number next other e)
 
-  pub jumps_twice : (new : Tracked) → number ≡ t.bad → new ≡ counted (restarted number s) → jumped s number ≡ (new, true)
+  pub jumps_twice : (new : Tracked) → number ≡ t.bad → new ≡ packet_counted (restarted number s) → jumped s number ≡ (new, true)
   jumps_twice new same e = jumped_as _ (jumped_twice t number same ∙ ap yes (anew new e))
 
 -- ---- each update counts
@@ -137,33 +137,33 @@ updates-advanced t number = refl
 -- where the number is the next
 abbrev second_try : Tracked → ℕ → Tracked × Bool
 second_try t number =
-    if t.probation == 1 then yes_off_probation (counted (restarted number t))
+    if t.probation == 1 then yes_off_probation (packet_counted (restarted number t))
     else (record t { probation = t.probation - 1; greatest = number }, false)
 
 updates-tried : (t : Tracked) (number : ℕ) → (tried t number).0.updates ≡ t.updates
 unfolding tried
 updates-tried t number =
     updates_if (not (number == (t.greatest + 1) % 65536)) (record t { probation = 1; greatest = number }, false) (second_try t number) t.updates refl
-    (updates_if (t.probation == 1) (yes_off_probation (counted (restarted number t))) (record t { probation = t.probation - 1; greatest = number }, false) t.updates (updates-restarted t number) refl)
+    (updates_if (t.probation == 1) (yes_off_probation (packet_counted (restarted number t))) (record t { probation = t.probation - 1; greatest = number }, false) t.updates (updates-restarted t number) refl)
 
 updates-jumped : (t : Tracked) (number : ℕ) → (jumped t number).0.updates ≡ t.updates
 unfolding jumped
 updates-jumped t number = updates_if _ _ _ t.updates (updates-restarted t number) refl
 
 abbrev far_off : Tracked → ℕ → Tracked × Bool
-far_off t number = if nat_le (ahead t.greatest number) 65436 then jumped t number else yes (counted t)
+far_off t number = if nat_le (ahead t.greatest number) 65436 then jumped t number else yes (packet_counted t)
 
 abbrev off_probation : Tracked → ℕ → Tracked × Bool
 off_probation t number =
-    if nat_lt (ahead t.greatest number) 3000 then yes (counted (advanced t number)) else far_off t number
+    if nat_lt (ahead t.greatest number) 3000 then yes (packet_counted (advanced t number)) else far_off t number
 
-updates-judged : (t : Tracked) (number : ℕ) → (judged t number).0.updates ≡ t.updates
-unfolding judged
-updates-judged t number =
+updates-sequenced : (t : Tracked) (number : ℕ) → (sequenced t number).0.updates ≡ t.updates
+unfolding sequenced
+updates-sequenced t number =
     updates_if (not (t.probation == 0)) (tried t number) (off_probation t number) t.updates (updates-tried t number)
-    (updates_if (nat_lt (ahead t.greatest number) 3000) (yes (counted (advanced t number))) (far_off t number) t.updates (updates-advanced t number)
-    (updates_if (nat_le (ahead t.greatest number) 65436) (jumped t number) (yes (counted t)) t.updates (updates-jumped t number) refl))
+    (updates_if (nat_lt (ahead t.greatest number) 3000) (yes (packet_counted (advanced t number))) (far_off t number) t.updates (updates-advanced t number)
+    (updates_if (nat_le (ahead t.greatest number) 65436) (jumped t number) (yes (packet_counted t)) t.updates (updates-jumped t number) refl))
 
 pub counts_updates : (s new : Tracked) (number : ℕ) (counts : Bool) → updated s number ≡ (new, counts) → new.updates ≡ s.updates + 1
 counts_updates s new number counts is =
-    sym (ap (λ (r : Tracked × Bool). r.0.updates) is) ∙ updates-judged (met s) number
+    sym (ap (λ (r : Tracked × Bool). r.0.updates) is) ∙ updates-sequenced (update_counted s) number

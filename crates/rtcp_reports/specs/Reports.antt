@@ -96,12 +96,12 @@ unfoldable pub follows : Reporting → ℕ → Followed → RtpPacket → Follow
 follows r source f p = reported_at r source (with_packet f p)
 
 -- the last report, where packets have come since
-abbrev pub ends : Reporting → ℕ → Followed → Followed
-ends r source f = if f.is_due then with_report r source f else f
+abbrev pub with_last_report : Reporting → ℕ → Followed → Followed
+with_last_report r source f = if f.is_due then with_report r source f else f
 
 abbrev pub reports_on : Reporting → List RtpPacket → List (List ℕ)
 reports_on r [] = []
-reports_on r (p ∷ ps) = (ends r p.ssrc (fold (follows r p.ssrc) (followed_from p) (p ∷ ps))).reports
+reports_on r (p ∷ ps) = (with_last_report r p.ssrc (fold (follows r p.ssrc) (followed_from p) (p ∷ ps))).reports
 
 -- the reports on datagrams
 unfoldable pub report_entries : Reporting → List (List ℕ) → List (List ℕ)

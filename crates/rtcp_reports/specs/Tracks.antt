@@ -50,8 +50,8 @@ restarted number t = record t {
 }
 
 -- the packet counts
-abbrev pub counted : Tracked → Tracked
-counted t = record t { received = t.received + 1 }
+abbrev pub packet_counted : Tracked → Tracked
+packet_counted t = record t { received = t.received + 1 }
 
 -- how far a number is above another, modulo 65,536
 abbrev pub ahead : ℕ → ℕ → ℕ
@@ -66,7 +66,7 @@ wrapped greatest number = if nat_lt number greatest then 65536 else 0
 unfoldable pub tried : Tracked → ℕ → Tracked × Bool
 tried t number =
     if not (number == (t.greatest + 1) % 65536) then (record t { probation = 1; greatest = number }, false)
-    else (if t.probation == 1 then (counted (record (restarted number t) { probation = 0 }), true)
+    else (if t.probation == 1 then (packet_counted (record (restarted number t) { probation = 0 }), true)
     else (record t { probation = t.probation - 1; greatest = number }, false))
 
 -- in order, with a permissible gap
@@ -79,24 +79,24 @@ advanced t number = record t {
 -- a very large jump: two packets in sequence make a restart, and one is bad
 unfoldable pub jumped : Tracked → ℕ → Tracked × Bool
 jumped t number =
-    if number == t.bad then (counted (restarted number t), true)
+    if number == t.bad then (packet_counted (restarted number t), true)
     else (record t { bad = (number + 1) % 65536 }, false)
 
 -- what is kept behind a packet, and whether it counts (update_seq): a number less than 3,000 (MAX_DROPOUT)
 -- ahead is in order, one up to 65,436, 100 (MAX_MISORDER) behind, is a jump, and any other is a duplicate,
 -- or late
-unfoldable pub judged : Tracked → ℕ → Tracked × Bool
-judged t number =
+unfoldable pub sequenced : Tracked → ℕ → Tracked × Bool
+sequenced t number =
     if not (t.probation == 0) then tried t number
-    else (if nat_lt (ahead t.greatest number) 3000 then (counted (advanced t number), true)
+    else (if nat_lt (ahead t.greatest number) 3000 then (packet_counted (advanced t number), true)
     else (if nat_le (ahead t.greatest number) 65436 then jumped t number
-    else (counted t, true)))
+    else (packet_counted t, true)))
 
-abbrev pub met : Tracked → Tracked
-met t = record t { updates = t.updates + 1 }
+abbrev pub update_counted : Tracked → Tracked
+update_counted t = record t { updates = t.updates + 1 }
 
 abbrev pub updated : Tracked → ℕ → Tracked × Bool
-updated t number = judged (met t) number
+updated t number = sequenced (update_counted t) number
 
 -- ==== what a report says (A.3)
 

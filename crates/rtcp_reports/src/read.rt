@@ -10,6 +10,7 @@ use crate::block::{Block, CompoundView, SenderInfo};
 use crate::packet_types::{RECEIVER_REPORT, SENDER_REPORT};
 use crate::refusal::RtcpRefusal;
 use byteorder::{BigEndian, ByteOrder};
+use rtp_head::{has_padding, version};
 
 // The bytes of a packet's first word, of a report's first two, and of a block.
 const HEAD_BYTES: usize = 4;
@@ -17,20 +18,6 @@ const HEAD_BYTES: usize = 4;
 const SHORTEST: usize = 8;
 
 const BLOCK_BYTES: usize = 24;
-
-fn version(bytes: &[u8]) -> u8
-    requires { 1 ≤ length bytes.now }
-    ensures { result ≡ version bytes.now }
-{
-    bytes[0] >> 6
-}
-
-fn has_padding(bytes: &[u8]) -> bool
-    requires { 1 ≤ length bytes.now }
-    ensures { result ≡ has_padding bytes.now }
-{
-    (bytes[0] >> 5) & 1 == 1
-}
 
 fn item_count(bytes: &[u8]) -> u8
     requires { 1 ≤ length bytes.now }

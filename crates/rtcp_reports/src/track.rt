@@ -1,6 +1,6 @@
 ghost use Rattle.std.specs.Prelude.{◌≡◌, ◌≢◌, ◌↔◌, ◌+◌, ◌^◌, ◌<◌, ◌≤◌, IsNone, IfSome};
 ghost use Rattle.rtcp_reports.specs.Rtcp.{LossFits};
-ghost use Rattle.rtcp_reports.specs.Tracks.{fresh, restarted, counted, wrapped, tried, jumped, updated};
+ghost use Rattle.rtcp_reports.specs.Tracks.{fresh, restarted, packet_counted, wrapped, tried, jumped, updated};
 ghost use Rattle.rtcp_reports.specs.Tracks.{loss, fraction, block_of, reported};
 
 use crate::block::Block;
@@ -161,7 +161,7 @@ impl Track {
     // Begins to count anew at a packet.
     fn restart(&mut self, seq: u16)
         requires { 1 ≤ self.old.updates }
-        ensures { self.new ≡ counted (restarted seq self.old) }
+        ensures { self.new ≡ packet_counted (restarted seq self.old) }
     {
         self.base = seq;
         self.greatest = seq;

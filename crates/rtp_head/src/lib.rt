@@ -6,6 +6,6 @@ mod view;
 mod write;
 
 pub use link_model::RtpRefusal;
-pub use read::read_rtp;
+pub use read::{has_padding, read_rtp, version};
 pub use view::RtpView;
 pub use write::write_rtp;

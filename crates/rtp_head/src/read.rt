@@ -13,14 +13,16 @@ use link_model::RtpRefusal;
 // The bytes of a header without CSRC list or extension.
 const FIXED_BYTES: usize = 12;
 
-fn version(bytes: &[u8]) -> u8
+/// The version in the first two bits of an RTP or RTCP packet (RFC 3550, 5.1 and 6.4.1).
+pub fn version(bytes: &[u8]) -> u8
     requires { 1 ≤ length bytes.now }
     ensures { result ≡ version bytes.now }
 {
     bytes[0] >> 6
 }
 
-fn has_padding(bytes: &[u8]) -> bool
+/// Whether an RTP or RTCP packet says that it ends in padding (RFC 3550, 5.1 and 6.4.1).
+pub fn has_padding(bytes: &[u8]) -> bool
     requires { 1 ≤ length bytes.now }
     ensures { result ≡ has_padding bytes.now }
 {

@@ -1,5 +1,5 @@
 use Rattle.std.proofs.Common.{ap}
-use Rattle.rtcp_reports.specs.Tracks.{Tracked, restarted, counted}
+use Rattle.rtcp_reports.specs.Tracks.{Tracked, restarted, packet_counted}
 use Rattle.rtcp_reports.proofs.Counting.{counted-anew}
 use Rattle.rtcp_reports.proofs.track.Track.restart.Goals as goal
 
@@ -9,4 +9,4 @@ invariant_of-self c = counted-anew _ _ c.args.seq c.self.view_is c.requires c.se
 
 pub returns : goal.returns
 unfolding restarted
-returns c = ap (λ (t : Tracked). counted (restarted c.args.seq t)) c.self.view_is
+returns c = ap (λ (t : Tracked). packet_counted (restarted c.args.seq t)) c.self.view_is

@@ -1,10 +1,10 @@
 use Rattle.std.proofs.Common.{arith}
 use Rattle.rtcp_reports.proofs.Judging.{tries, orders, jumps, lates, counts_updates}
-use Rattle.rtcp_reports.proofs.Counting.{counted-met}
+use Rattle.rtcp_reports.proofs.Counting.{counted-update}
 use Rattle.rtcp_reports.proofs.track.Track.update.Goals as goal
 
 pub invariant_of-self : goal.invariant_of-self
-invariant_of-self c = counted-met _ _ c.self.view_is c.requires c.self.invariant
+invariant_of-self c = counted-update _ _ c.self.view_is c.requires c.self.invariant
 
 pub returns-then-self-gt0-clause-value : goal.returns-then-self-gt0-clause-value
 returns-then-self-gt0-clause-value c =
