@@ -4,7 +4,7 @@ use Rattle.link_outside.specs.Calls.{passes_none}
 use Rattle.link_outside.specs.Passing.{Passes}
 use Rattle.link_report.specs.declared.ending.Ending.TheVariants.{NoMemory, WireFailed}
 use Rattle.vc_ports.specs.Faults.{Rose}
-use Rattle.vc_ports.specs.Wires.{WireTold}
+use Rattle.vc_ports.specs.Wires.{WireTold, IsOver}
 use Rattle.cmd_receive.specs.WireInletLaws.{told_between}
 use Rattle.cmd_receive.specs.WireInlets.{StoppedWire, WasGiven}
 
@@ -28,12 +28,12 @@ module _ (a b : WireTold) (i j : ℕ) (later : i ≤ j) where
       later = later;
     }
 
-    pub wire_ended : a.coming ≡ Some [] → StoppedWire (told_between a b i j) [] None
+    pub wire_ended : IsOver a.coming → StoppedWire (told_between a b i j) [] None
     wire_ended none = record {
       lost = [];
       few = omega arith;
       given = none_given;
-      ended = (refl, ap (λ (t : WireTold). t.coming) same ∙ none);
+      ended = (refl, subst (λ (t : WireTold). IsOver t.coming) (sym same) none);
     }
 
     pub wire_failed : Rose i j → StoppedWire (told_between a b i j) [] (Some WireFailed)

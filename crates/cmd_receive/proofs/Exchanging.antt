@@ -1,12 +1,13 @@
 -- How a datagram is exchanged: it is sent, and then one is received and heard, or not.
-use Rattle.std.proofs.Common.{◌≡◌, ℕ, ◌≤◌, List, [], ◌∷◌, ◌++◌, length, Some, None, refl, sym, ap, ◌∙◌, subst, arith, inl, inr}
+use Rattle.std.proofs.Common.{◌≡◌, ℕ, ◌≤◌, Bool, true, false, List, [], ◌∷◌, ◌++◌, length, Some, None, refl, sym, ap, ◌∙◌, subst, arith, inl, inr}
+use Rattle.std.specs.Prelude.{Option, if◌then◌else◌}
 use Rattle.link_outside.specs.Calls.{passes_none, passes_sent, passes_then}
 use Rattle.link_outside.specs.Passing.{Passes}
 use Rattle.link_outside.specs.declared.outlet.OutletFault.TheVariants as outlets
 use Rattle.link_report.specs.declared.ending.Ending.{Ending}
 use Rattle.link_report.specs.declared.ending.Ending.TheVariants.{NoMemory, OutputFailed, WireFailed}
 use Rattle.vc_ports.specs.Faults.{Rose}
-use Rattle.vc_ports.specs.Wires.{WireTold, sending}
+use Rattle.vc_ports.specs.Wires.{WireTold, IsOver, TellsNothing, grown, sending}
 use Rattle.cmd_receive.specs.Exchanges.{Exchanged, LoopBroke, LoopState, WereLooped}
 use Rattle.cmd_receive.specs.HearingLaws.{all_but, none_heard}
 use Rattle.cmd_receive.specs.WireInletLaws.{told_between}
@@ -31,6 +32,32 @@ module _ (x : LoopState) (datagram : List ℕ) (mid : WireTold) (j : ℕ) (first
       rose,
     );
   }
+
+  -- the network lost it
+  pub unanswered : TellsNothing x.told × (mid ≡ sending x.told datagram)
+      → WereLooped x (record { playout = x.playout; told = mid; wire_faults = j }) (datagram ∷ [])
+  unanswered (nothing, sent) = (
+    [],
+    record {
+      exchanged = record {
+        passes = passes_sent x.told mid datagram sent;
+        few = omega arith;
+        later = first;
+      };
+      hears = none_heard x.playout;
+      in_turn = inr (subst (λ (t : WireTold). IsOver t.coming) (sym sent)
+          (none_coming x.told.looped x.told.coming nothing.coming));
+    },
+  )
+    where
+      told_is_untold : (all : List (List ℕ)) → Some all ≡ None → ⊥
+      told_is_untold all same = cc
+
+      none_coming : (looped : Bool) (coming : Option (List (List ℕ))) → coming ≡ None
+          → IsOver (if looped then grown coming datagram else coming)
+      none_coming true None none = tt
+      none_coming false None none = tt
+      none_coming looped (Some all) none = absurd (told_is_untold all none)
 
   module _ (sent : mid ≡ sending x.told datagram) (after : WireTold) (k : ℕ) where
     abbrev behind : PlayoutState → LoopState

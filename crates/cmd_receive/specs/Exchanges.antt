@@ -5,7 +5,7 @@ use Rattle.link_outside.specs.declared.outlet.OutletFault.{OutletFault}
 use Rattle.link_outside.specs.declared.outlet.OutletFault.TheVariants as outlets
 use Rattle.link_report.specs.declared.ending.Ending.TheVariants.{NoMemory, OutputFailed}
 use Rattle.vc_ports.specs.Faults.{Rose}
-use Rattle.vc_ports.specs.Wires.{WireTold}
+use Rattle.vc_ports.specs.Wires.{WireTold, IsOver}
 use Rattle.vc_slice.specs.Asked.{Told}
 use Rattle.cmd_receive.specs.Playouts.{PlayoutState, BorrowsAs, BreaksOff, Hears, IsWell, playout_state}
 use Rattle.cmd_receive.specs.declared.outlet.LoopOutlet.{LoopOutlet}
@@ -43,7 +43,7 @@ pub record Exchanged (x y : LoopState) (sent given : List (List ℕ)) : Type 0 w
 
 -- as many were given as were sent, or no more will come
 abbrev pub AreInTurn : WireTold → (sent given : List (List ℕ)) → Type 0
-AreInTurn told sent given = (length given ≡ length sent) ⊎ (told.coming ≡ Some [])
+AreInTurn told sent given = (length given ≡ length sent) ⊎ IsOver told.coming
 
 -- each was answered, and what came was heard
 pub record HearsInTurn (x y : LoopState) (sent heard : List (List ℕ)) : Type 0 where

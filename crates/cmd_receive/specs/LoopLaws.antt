@@ -8,7 +8,7 @@ use Rattle.link_outside.specs.Passing.{Passes, grown_by, led_by, looped_back}
 use Rattle.link_outside.specs.declared.outlet.OutletFault.{OutletFault}
 use Rattle.link_outside.specs.declared.outlet.OutletFault.TheVariants as outlets
 use Rattle.link_report.specs.declared.ending.Ending.TheVariants.{NoMemory, OutputFailed}
-use Rattle.vc_ports.specs.Wires.{WireTold}
+use Rattle.vc_ports.specs.Wires.{WireTold, IsOver}
 use Rattle.cmd_receive.specs.Exchanges.{AreInTurn, BrokeBehind, Exchanged, HearsInTurn}
 use Rattle.cmd_receive.specs.Exchanges.{LoopBroke, LoopState, WereLooped}
 use Rattle.cmd_receive.specs.HearingLaws.{breaks_then, hears_then, none_heard}
@@ -30,16 +30,18 @@ module _ (sent given more_sent more_given : List (List ℕ)) (few : length given
   by_wire : (looped : Bool) (coming mid after : Option (List (List ℕ)))
       → grown_by coming (looped_back looped sent) ≡ led_by given mid
       → grown_by mid (looped_back looped more_sent) ≡ led_by more_given after
-      → mid ≡ Some [] → length more_given ≡ length more_sent
-      → (length (given ++ more_given) ≡ length (sent ++ more_sent)) ⊎ (after ≡ Some [])
-  by_wire looped None None after first second none same = absurd (some_is_none [] none)
+      → IsOver mid → length more_given ≡ length more_sent
+      → (length (given ++ more_given) ≡ length (sent ++ more_sent)) ⊎ IsOver after
+  by_wire looped None None None first second none same = inr tt
+  by_wire looped None None (Some after) first second none same = absurd (some_is_none _ second)
   by_wire looped None (Some mid) after first second none same =
       absurd (some_is_none (given ++ mid) first)
-  by_wire looped (Some coming) None after first second none same = absurd (some_is_none [] none)
+  by_wire looped (Some coming) None after first second none same =
+      absurd (some_is_none _ (sym first))
   by_wire looped (Some coming) (Some mid) None first second none same =
       absurd (some_is_none _ (sym second))
   by_wire true (Some coming) (Some mid) (Some after) first second none same =
-      let empty : mid ≡ [] = some_is mid [] none in
+      let empty : mid ≡ [] = none in
       let long : length (coming ++ sent) ≡ length (given ++ mid) =
       ap length (some_is (coming ++ sent) (given ++ mid) first) in
       let short : length mid ≡ 0 = ap length empty in
@@ -55,12 +57,12 @@ module _ (sent given more_sent more_given : List (List ℕ)) (few : length given
         length-append sent more_sent,
       ))
   by_wire false (Some coming) (Some mid) (Some after) first second none same =
-      let empty : mid ≡ [] = some_is mid [] none in
+      let empty : mid ≡ [] = none in
       let long : length (mid ++ []) ≡ length (more_given ++ after) =
       ap length (some_is (mid ++ []) (more_given ++ after) second) in
       let short : length mid ≡ 0 = ap length empty in
-      inr (ap Some (no_datagrams after
-      (omega (arith, long, short, length-append mid [], length-append more_given after))))
+      inr (no_datagrams after
+      (omega (arith, long, short, length-append mid [], length-append more_given after)))
 
   in_turn_then : (x y z : WireTold) → Passes x y sent given → Passes y z more_sent more_given
       → AreInTurn y sent given → AreInTurn z more_sent more_given

@@ -49,8 +49,8 @@ pub fn decode<S: Source, O: Sink, P: Hands>(
     )
 }
 
-/// Unpacks a capture, or a pcap file: reads it as `decode` does, and writes the elementary stream of its first
-/// session. That is the session's sequence header, the pictures of the frames that `decode` would
+/// Unpacks a capture, or a pcap file: reads it as `decode` does, and writes the elementary stream of its
+/// first session. That is the session's sequence header, the pictures of the frames that `decode` would
 /// write of it, each in its own bytes, and an end of sequence; without pictures it is nothing.
 pub fn unpack<S: Source, O: Sink, P: Hands>(
     alloc: Global,

@@ -16,7 +16,7 @@ use link_receiver::Receiver;
 use link_report::{Ending, Summary};
 use std::alloc::Global;
 use std::thread::Threads;
-use vc_ports::{Reached, Sink, Source, Wire};
+use vc_ports::{NoPace, Reached, Sink, Source, Wire};
 use vc_slice::{Hands, Places};
 use vc_types::SendSettings;
 
@@ -90,7 +90,7 @@ fn loop_through<H: Threads + Copy + Send + Sync, S: Source, O: Sink, N: Wire, P:
         (loop_state N.told N.faults O.held O.faults P.told P.bound outlet.old)
         (loop_state N.told N.faults O.held O.faults P.told P.bound outlet.new) }
 {
-    match send_frames(rt, workers, alloc, s, frames, input, outlet) {
+    match send_frames(rt, workers, alloc, s, frames, input, outlet, &mut NoPace) {
         Ok(totals) => {
             let tally = outlet.playout.drain()?;
             Ok(looped(&totals, tally))

@@ -7,11 +7,11 @@ use crate::wire_inlet::WireInlet;
 use link_hearing::{Inlet, ListenerFault};
 use link_outside::{Outlet, OutletFault};
 use link_report::Ending;
-use vc_ports::{Reached, Sink, Wire};
+use vc_ports::{Sent, Sink, Wire};
 use vc_slice::Places;
 
-/// Sends each datagram to a wire, and then receives once and lets a receiver hear what came, which
-/// writes its frames.
+/// Sends each datagram to a wire, and then receives once, unless the network lost it, and lets a receiver
+/// hear what came, which writes its frames.
 #[derive(Drop)]
 pub(crate) struct LoopOutlet<'a, 'b, 'c, 'd, 'e, N, O, P> {
     pub(crate) inlet: WireInlet<'a, 'b, N>,
@@ -34,9 +34,11 @@ impl<'a, 'b, 'c, 'd, 'e, N: Wire, O: Sink, P: Places> Outlet
         (loop_state N.told N.faults O.held O.faults P.told P.bound y) datagrams fault };
 
     fn put(&mut self, datagram: &[u8]) -> Result<(), OutletFault> {
-        let Reached::Yes = self.inlet.wire.send(datagram) else {
-            return Err(OutletFault::Wire);
-        };
+        match self.inlet.wire.send(datagram) {
+            Sent::Yes => {}
+            Sent::Lost => return Ok(()),
+            Sent::Failed => return Err(OutletFault::Wire),
+        }
         match self.inlet.next() {
             Ok(Some(came)) => match self.playout.enter(came) {
                 Ok(_) => Ok(()),

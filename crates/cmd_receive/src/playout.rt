@@ -95,9 +95,9 @@ impl<'a, 'b, 'c, O: Sink, P: Places> Listener for Playout<'a, 'b, 'c, O, P> {
         true
     }
 
-    fn hear(&mut self, datagram: Bytes) -> Result<(), ListenerFault> {
+    fn hear(&mut self, datagram: Bytes) -> Result<bool, ListenerFault> {
         match self.enter(datagram) {
-            Ok(_) => Ok(()),
+            Ok(_) => Ok(true),
             Err(fault) => Err(fault),
         }
     }

@@ -11,7 +11,7 @@ use crate::playout::Playout;
 use crate::session_playout::SessionPlayout;
 use crate::wire_inlet::WireInlet;
 use link_hearing::hear_all;
-use link_outside::Inbox;
+use link_outside::{Inbox, listen};
 use link_receiver::Receiver;
 use link_report::{Answer, Ending, Summary};
 use std::alloc::Global;
@@ -22,13 +22,15 @@ use vc_slice::{Hands, Places};
 /// pictures open at a time (2 to 8), and writes the raw frames that the datagrams make. A frame goes out as
 /// soon as its pictures are let go. Each slice that a picture keeps is offered to so many workers; what
 /// they don't decode in time is decoded here. Where the wire fails, or as many datagrams came as were asked
-/// for, the frames of what was heard are written all the same.
+/// for, the frames of what was heard are written all the same. A wire that tells nothing ends once so many
+/// seconds have brought the session nothing new; with 0 it never does.
 pub fn recv<N: Wire, O: Sink, P: Hands>(
     alloc: Global,
     window: u8,
     workers: u32,
     packets: u32,
     sessions: u32,
+    idle: u32,
     at: &str,
     wire: &mut N,
     output: &mut O,
@@ -49,7 +51,7 @@ pub fn recv<N: Wire, O: Sink, P: Hands>(
         return Answer::Stopped(Ending::NoMemory);
     };
     let mut receiver = Receiver::new(alloc, window);
-    let Reached::Yes = wire.listen(at) else {
+    let Reached::Yes = listen(wire, at, idle) else {
         let tally = *receiver.tally();
         return Answer::Drained(Summary::Judged { tally }, Ending::WireFailed);
     };

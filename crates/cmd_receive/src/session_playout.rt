@@ -7,6 +7,7 @@ use crate::SessionCount;
 use crate::playout::Playout;
 use bytes::Bytes;
 use link_hearing::{Listener, ListenerFault};
+use link_model::Outcome;
 use vc_ports::Sink;
 use vc_slice::Places;
 
@@ -40,11 +41,11 @@ impl<'a, 'b, 'c, O: Sink, P: Places> Listener for SessionPlayout<'a, 'b, 'c, O, 
         self.count.left > 0
     }
 
-    fn hear(&mut self, datagram: Bytes) -> Result<(), ListenerFault> {
+    fn hear(&mut self, datagram: Bytes) -> Result<bool, ListenerFault> {
         match self.playout.enter(datagram) {
             Ok(outcome) => {
                 self.count.judge(outcome);
-                Ok(())
+                Ok(is_of_use(outcome))
             }
             Err(fault) => Err(fault),
         }
@@ -59,4 +60,17 @@ impl<'a, 'b, 'c, O: Sink, P: Places> Listener for SessionPlayout<'a, 'b, 'c, O, 
         ((b.0.0 ∙ a.0.0, b.0.1 ∙ a.0.1), breaks_then _ _ _ first second _ a.1.hears b.1) };
 
     ghost loses_last = { λ x y first lost few a. (a.0, all_but lost few a.1.hears) };
+}
+
+// Whether a datagram brought the session something new, which one that is late, a repeat or another sender's
+// doesn't: so a session whose sender is gone, or has started again, ends by silence.
+fn is_of_use(outcome: Outcome) -> bool {
+    matches!(
+        outcome,
+        Outcome::HeaderNew
+            | Outcome::End
+            | Outcome::ParamsKept
+            | Outcome::SlicesKept
+            | Outcome::SlicesPending
+    )
 }

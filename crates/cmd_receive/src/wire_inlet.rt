@@ -46,6 +46,12 @@ impl<'a, 'b, N: Wire> Inlet for WireInlet<'a, 'b, N> {
         }
     }
 
+    fn note(&mut self, was_of_use: bool) {
+        if was_of_use {
+            self.wire.keep();
+        }
+    }
+
     ghost none = { λ x. (refl, none_given _ _) };
 
     ghost more = { λ x y z first second a b.

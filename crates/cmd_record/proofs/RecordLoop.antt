@@ -1,5 +1,5 @@
 -- What a loop that records knows after each datagram, and where it ends.
-use Rattle.std.proofs.Common.{◌≡◌, ℕ, ◌+◌, ◌<◌, ◌≤◌, List, [], ◌∷◌, ◌++◌, length, take, Option, Some, Ok, Err, refl, sym, subst, ap, ◌∙◌, arith, inl, inr, length-append}
+use Rattle.std.proofs.Common.{◌≡◌, ℕ, ◌+◌, ◌<◌, ◌≤◌, List, [], ◌∷◌, ◌++◌, length, take, Option, Some, Ok, Err, refl, sym, subst, ◌∙◌, arith, inl, inr, length-append}
 use Rattle.std.specs.Prelude.{◌⊎◌}
 use Rattle.std.proofs.Math.Seq.{take-append_seam}
 use Rattle.std.proofs.lemmas.Bool.{cases_lt}
@@ -14,7 +14,7 @@ use Rattle.link_report.specs.declared.ending.Ending.TheVariants.{OutputFailed, P
 use Rattle.vc_ports.proofs.Growing.{Grew-none, Grew-then, GrewBySome-then}
 use Rattle.vc_ports.specs.Changes.{OutputChange, WireChange, Wrote}
 use Rattle.vc_ports.specs.Faults.{Rose}
-use Rattle.vc_ports.specs.Wires.{WireTold, Receives}
+use Rattle.vc_ports.specs.Wires.{WireTold, IsOver, Receives}
 use Rattle.vc_ports.specs.Writing.{Grew, GrewBySome}
 use Rattle.cmd_record.specs.Recorders.{HasCounted, RecordsEach}
 use Rattle.cmd_record.specs.Watching.{Watches}
@@ -69,6 +69,10 @@ wanted_more sessions heard d was now k less = by_place (cases_lt k (length heard
 still_open : (sessions : ℕ) (r : Recorder) (heard : List (List ℕ)) → HasCounted r sessions heard → 0 < r.watch.left
     → ended_sessions heard < sessions
 still_open sessions r heard counted some = omega (arith, counted.watches.left_are, some)
+
+-- what was received, and then a call after which the wire tells the same
+pub received_still : (a b c : WireTold) (datagram : List ℕ) → c ≡ b → Receives a b datagram → Receives a c datagram
+received_still a b c datagram same received = subst (λ (t : WireTold). Receives a t datagram) (sym same) received
 
 module _ (sessions number : ℕ) (a b : WireTold) (i j : ℕ) (held mid : Option (List ℕ)) (p q : ℕ) (x : Recorder) (heard : List (List ℕ))
     (at : IsAt sessions number x (told_between a b i j) (held_between held mid p q) heard) where
@@ -149,7 +153,7 @@ module _ (sessions number : ℕ) (a b : WireTold) (i j : ℕ) (held mid : Option
     gave_none = subst (λ (t : WireTold). Passes a t [] heard) (sym same) at.gave
 
     -- nothing more will come
-    pub none_left : b.coming ≡ Some []
+    pub none_left : IsOver b.coming
         → RecordsEach packets sessions x (Ok tt) (told_between a c i k) (held_between held mid p q)
     none_left none = record {
       heard = heard;
@@ -158,7 +162,7 @@ module _ (sessions number : ℕ) (a b : WireTold) (i j : ℕ) (held mid : Option
       ended = (
         inr (record {
           fewer = omega (arith, room, at.number_is);
-          nothing_more = ap (λ (t : WireTold). t.coming) same ∙ none;
+          nothing_more = subst (λ (t : WireTold). IsOver t.coming) (sym same) none;
         }),
         record { wrote = at.wrote; counted = at.counted },
       );

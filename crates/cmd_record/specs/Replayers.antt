@@ -28,7 +28,7 @@ pub record ReplayState : Type 0 where
   pub bytes : ℕ
   pub long_at : Option ℕ
 
-abbrev pub replay_state : {N : Type 0} → (N → WireTold) → (N → ℕ) → Replayer N → ReplayState
+abbrev pub replay_state : {N P : Type 0} → (N → WireTold) → (N → ℕ) → Replayer N P → ReplayState
 replay_state told faults r = record {
   told = told r.wire.now;
   faults = faults r.wire.now;

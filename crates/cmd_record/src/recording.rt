@@ -5,6 +5,7 @@ ghost use Rattle.vc_ports.specs.Changes.{output_of, wire_of};
 
 use crate::recorder::Recorder;
 use link_hearing::has_broken;
+use link_outside::listen;
 use link_report::{Answer, Ending};
 use std::alloc::Global;
 use vc_ports::{Came, Reached, Sink, Wire, WriteFault};
@@ -15,11 +16,13 @@ const ROOM: usize = 65535;
 
 /// Records the datagrams that come to an address, whatever they are, at most so many, until so many sessions
 /// have ended, and writes each as the entry of a capture before the next is asked for. Where the wire fails,
-/// or as many datagrams came as were asked for, the counts are answered all the same.
+/// or as many datagrams came as were asked for, the counts are answered all the same. A wire that tells
+/// nothing ends once no datagram has come for so many seconds; with 0 it never does.
 pub fn record_wire<N: Wire, O: Sink>(
     alloc: Global,
     packets: u32,
     sessions: u32,
+    idle: u32,
     at: &str,
     wire: &mut N,
     output: &mut O,
@@ -32,7 +35,7 @@ pub fn record_wire<N: Wire, O: Sink>(
         return Answer::Stopped(Ending::NoMemory);
     };
     let mut recorder = Recorder::new(sessions);
-    let Reached::Yes = wire.listen(at) else {
+    let Reached::Yes = listen(wire, at, idle) else {
         return Answer::Drained(recorder.summary(), Ending::WireFailed);
     };
     let recorded = record_each(packets, &mut buffer, &mut recorder, wire, output);
@@ -69,7 +72,7 @@ fn record_each<N: Wire, O: Sink>(
         }
         match wire.recv(buffer) {
             Came::Datagram(count) => match recorder.take(&buffer[..count], output) {
-                Ok(()) => {}
+                Ok(()) => wire.keep(),
                 Err(WriteFault) => return Err(Ending::OutputFailed),
             },
             Came::End => return Ok(()),

@@ -4,8 +4,10 @@ ghost use Rattle.cmd_record.specs.ReplayLaws.{breaks_then, loses_last, more_play
 
 use bytes::Bytes;
 use link_hearing::{Listener, ListenerFault};
+use link_outside::send;
 use link_report::Summary;
-use vc_ports::{Reached, Wire};
+use rtp_head::read_rtp;
+use vc_ports::{Pace, Reached, Turn, Wire};
 
 // A datagram that is sent has at most so many bytes.
 const LONGEST: usize = 65507;
@@ -14,10 +16,12 @@ const LONGEST: usize = 65507;
 const MOST: u64 = 1 << 32;
 
 /// Sends the datagrams that it hears to a wire, and counts them. It keeps the wire borrowed. It breaks off
-/// with `Output` where a datagram doesn't go out: the wire failed, or it is too long.
+/// with `Output` where a datagram doesn't go out: the wire failed, or it is too long. It keeps the pace
+/// borrowed too.
 #[derive(Drop)]
-pub(crate) struct Replayer<'a, N> {
+pub(crate) struct Replayer<'a, N, P> {
     wire: &'a mut N,
+    pace: &'a mut P,
     datagrams: u64,
     // The lengths of the datagrams, together.
     bytes: u64,
@@ -25,10 +29,10 @@ pub(crate) struct Replayer<'a, N> {
     pub(crate) long_at: Option<u64>,
 }
 
-impl<'a, N: Wire> Replayer<'a, N> {
+impl<'a, N: Wire, P: Pace> Replayer<'a, N, P> {
     ghost use Rattle.cmd_record.specs.Replayers.{counts_of, replay_state};
 
-    pub(crate) fn new(wire: &'a mut N) -> Replayer<'a, N>
+    pub(crate) fn new(wire: &'a mut N, pace: &'a mut P) -> Replayer<'a, N, P>
         ensures borrows { result.wire.ghost_name ≡ wire.entry.ghost_name }
         ensures wire { result.wire.now ≡ wire.old }
         ensures datagrams { result.datagrams ≡ 0 }
@@ -37,6 +41,7 @@ impl<'a, N: Wire> Replayer<'a, N> {
     {
         Replayer {
             wire,
+            pace,
             datagrams: 0,
             bytes: 0,
             long_at: None,
@@ -54,7 +59,27 @@ impl<'a, N: Wire> Replayer<'a, N> {
     }
 }
 
-impl<'a, N: Wire> Listener for Replayer<'a, N> {
+// Waits for the moment of a datagram's timestamp, if it has one.
+fn wait_for<P: Pace>(pace: &mut P, datagram: &[u8]) {
+    if let Some(turn) = turn_of(datagram) {
+        pace.wait(&turn);
+    }
+}
+
+// The turn of a datagram that has a timestamp.
+fn turn_of(datagram: &[u8]) -> Option<Turn> {
+    let Ok(head) = read_rtp(datagram) else {
+        return None;
+    };
+    Some(Turn {
+        timestamp: head.timestamp,
+        ticks: 0,
+        before: 0,
+        count: 1,
+    })
+}
+
+impl<'a, N: Wire, P: Pace> Listener for Replayer<'a, N, P> {
     ghost use Rattle.cmd_record.specs.Replayers.{BreaksOff, CanPlay, Plays, replay_state};
 
     ghost is_ready = { λ x. CanPlay (replay_state N.told N.faults x) };
@@ -74,17 +99,18 @@ impl<'a, N: Wire> Listener for Replayer<'a, N> {
         self.datagrams < MOST
     }
 
-    fn hear(&mut self, datagram: Bytes) -> Result<(), ListenerFault> {
+    fn hear(&mut self, datagram: Bytes) -> Result<bool, ListenerFault> {
         let bytes = datagram.as_slice();
         if bytes.len() > LONGEST {
             self.long_at = Some(self.bytes + 2 * self.datagrams);
             return Err(ListenerFault::Output);
         }
-        match self.wire.send(bytes) {
+        wait_for(self.pace, bytes);
+        match send(self.wire, bytes) {
             Reached::Yes => {
                 self.datagrams += 1;
                 self.bytes += bytes.len() as u64;
-                Ok(())
+                Ok(true)
             }
             Reached::Failed => Err(ListenerFault::Output),
         }

@@ -7,18 +7,19 @@ use crate::replayer::Replayer;
 use link_hearing::{InputForm, hear_input};
 use link_report::{Answer, Ending};
 use std::alloc::Global;
-use vc_ports::{Reached, Source, Wire};
+use vc_ports::{Pace, Reached, Source, Wire};
 
 /// Sends the datagrams of a capture's entries to an address, each as it is, at most so many: aims the wire,
 /// and then reads entries one after another, and sends the datagram of each before the next is read. It stops
 /// at an entry of more than 65,507 bytes, which no datagram can have. Where the wire can't be aimed, nothing
-/// is read.
-pub fn replay_capture<S: Source, N: Wire>(
+/// is read. The pace has a datagram wait for the moment of its RTP timestamp, if it has one.
+pub fn replay_capture<S: Source, N: Wire, P: Pace>(
     alloc: Global,
     packets: u32,
     to: &str,
     input: &mut S,
     wire: &mut N,
+    pace: &mut P,
 ) -> Answer
     ensures { Replays packets to.now result
         (input_of S.left S.faults input.old input.new)
@@ -27,16 +28,16 @@ pub fn replay_capture<S: Source, N: Wire>(
     let Reached::Yes = wire.aim(to) else {
         return Answer::Stopped(Ending::WireFailed);
     };
-    let mut replayer = Replayer::new(wire);
+    let mut replayer = Replayer::new(wire, pace);
     replay_through(alloc, packets, input, &mut replayer)
 }
 
 // Sends the datagrams of entries to a wire that is aimed.
-fn replay_through<S: Source, N: Wire>(
+fn replay_through<S: Source, N: Wire, P: Pace>(
     alloc: Global,
     packets: u32,
     input: &mut S,
-    replayer: &mut Replayer<N>,
+    replayer: &mut Replayer<N, P>,
 ) -> Answer
     requires ready { CanPlay (replay_state N.told N.faults replayer.old) }
     requires none { replayer.old.datagrams ≡ 0 }
@@ -50,7 +51,7 @@ fn replay_through<S: Source, N: Wire>(
 }
 
 // What the command says of what was sent.
-fn answer<N: Wire>(replayer: &Replayer<N>, heard: Result<(), Ending>) -> Answer
+fn answer<N: Wire, P: Pace>(replayer: &Replayer<N, P>, heard: Result<(), Ending>) -> Answer
     ensures { result ≡ replay_answer (replay_state N.told N.faults replayer.now) heard }
 {
     match heard {

@@ -19,6 +19,7 @@ use Rattle.law_round_trips.proofs.ZeroIndices.{all_at_zero}
 use Rattle.vc_ports.specs.Changes.{InputChange, OutputChange, WireChange, Wrote}
 use Rattle.vc_ports.proofs.Given.{some_is}
 use Rattle.vc_ports.specs.Reading.{Gave, IsAtEnd}
+use Rattle.vc_ports.specs.Wires.{IsOver}
 use Rattle.vc_types.specs.declared.choice.IndexChoice.TheVariants.{Index}
 use Rattle.vc_types.specs.declared.settings.SendSettings.{SendSettings}
 use Rattle.vc_types.specs.Planes.{Planes}
@@ -36,10 +37,10 @@ all_given before after bytes given told gave ended = grind (arith, append-nil, s
 
 -- what came is what was sent
 module _ (sent heard : List (List ℕ)) where
-  all_behind : (rest : List (List ℕ)) → sent ≡ heard ++ rest → (length heard ≡ length sent) ⊎ (Some rest ≡ Some []) → rest ≡ []
+  all_behind : (rest : List (List ℕ)) → sent ≡ heard ++ rest → (length heard ≡ length sent) ⊎ (rest ≡ []) → rest ≡ []
   all_behind rest is h2 = grind (arith, length-append, no_elements)
 
-  by_wire : (after : Option (List (List ℕ))) → Some sent ≡ led_by heard after → (length heard ≡ length sent) ⊎ (after ≡ Some []) → heard ≡ sent
+  by_wire : (after : Option (List (List ℕ))) → Some sent ≡ led_by heard after → (length heard ≡ length sent) ⊎ IsOver after → heard ≡ sent
   by_wire after came turn = grind (arith, all_behind, append-nil, some_is)
 
 pub heard_is_sent : (at : List ℕ) (wire : WireChange) (heard sent : List (List ℕ)) → IsTrue wire.told.before.looped → wire.told.before.coming ≡ Some [] → SentInTurn at wire heard sent → heard ≡ sent

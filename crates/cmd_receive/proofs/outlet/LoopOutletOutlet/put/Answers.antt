@@ -1,11 +1,11 @@
 use Rattle.std.proofs.Common.{refl}
-use Rattle.cmd_receive.proofs.Exchanging.{ended, failed, lost, unheard, unsent, unwritten}
+use Rattle.cmd_receive.proofs.Exchanging.{ended, failed, lost, unanswered, unheard, unsent, unwritten}
 use Rattle.cmd_receive.proofs.outlet.LoopOutletOutlet.put.Goals as goal
 
 -- it wasn't sent
-pub returns-in_default-clause-broke : goal.returns-in_default-clause-broke
-returns-in_default-clause-broke g c =
-    let now = c.in_default.ensures in
+pub returns-in-Failed-clause-broke : goal.returns-in-Failed-clause-broke
+returns-in-Failed-clause-broke g c =
+    let now = c.in-Failed.ensures in
     ((refl, (refl, refl)), unsent _ _ _ _ now.cause.later now.told (now.cause.rose refl))
 
 -- the output failed
@@ -17,6 +17,12 @@ returns-in-Err-Output-clause-broke g c =
       (given.0, (now.borrows_output, now.borrows_places)),
       unwritten _ _ _ _ sent.cause.later sent.told _ _ _ given.1 _ (rw c.in-Err-Output.field-0-is at now.takes),
     )
+
+-- it was lost
+pub returns-in-Lost-clause-carried : goal.returns-in-Lost-clause-carried
+returns-in-Lost-clause-carried g c =
+    let now = c.in-Lost.ensures in
+    ((refl, (refl, refl)), unanswered _ _ _ _ now.cause.later now.told)
 
 -- memory ran out for what came
 pub returns-in-Err-NoMemory-clause-broke : goal.returns-in-Err-NoMemory-clause-broke
