@@ -13,3 +13,4 @@ pub mod LoopSteps
 pub mod Carrying
 pub mod FramesComplete
 pub mod SendCompletes
+mod Aiming

@@ -1,5 +1,6 @@
 -- What a sender goes on with, and what is counted, behind no frames and behind one more.
-use Rattle.std.proofs.Common.{◌≡◌, ℕ, ◌+◌, ◌-◌, ◌*◌, ◌^◌, ◌<◌, ◌≤◌, List, [], ◌∷◌, ◌++◌, length, ap, sym, ◌∙◌, arith, length-append}
+use Rattle.std.proofs.Common.{◌≡◌, ℕ, ◌+◌, ◌-◌, ◌*◌, ◌/◌, ◌%◌, ◌^◌, ◌<◌, ◌≤◌, Bool, true, false, if◌then◌else◌, List, [], ◌∷◌, ◌++◌, length, refl, ap, sym, ◌∙◌, arith, length-append}
+use Rattle.std.proofs.Math.Nat.{zero-div}
 use Rattle.std.proofs.lemmas.List.Sums.{sum_by-append}
 use Rattle.std.proofs.lemmas.Grind.{common_steps}
 use Rattle.cmd_send.specs.declared.totals.Totals.{Totals}
@@ -12,13 +13,25 @@ use Rattle.cmd_send.proofs.Stopping.{none_sent}
 use Rattle.link_model.specs.Sending.{pictures_per_frame, timestamp_of}
 use Rattle.link_sender.specs.Sent.{Numbers, numbers_behind}
 use Rattle.vc_types.specs.Planes.{Planes}
+use Rattle.vc_types.specs.Rates.{stamp_at}
 use Rattle.vc_types.specs.SenderSettings.{Sending}
 
 -- ---- numbers
 
+no_halves : (fields : Bool) → (if fields then 0 else 2 * 0) ≡ 0
+no_halves true = refl
+no_halves false = refl
+
+no_ticks : (ticks frames : ℕ) → 0 * ticks / (2 * frames) % 2 ^ 32 ≡ 0
+no_ticks ticks frames =
+    let none : 0 * ticks ≡ 0 = omega arith in
+    ap (λ n. n / (2 * frames) % 2 ^ 32) none ∙ ap (λ n. n % 2 ^ 32) (zero-div (2 * frames))
+
 first_timestamp : (s : Sending) → timestamp_of s 0 ≡ 0
-unfolding timestamp_of
-first_timestamp s = grind (arith, common_steps)
+unfolding timestamp_of stamp_at
+first_timestamp s =
+    ap (λ n. n * s.rate.ticks / (2 * s.rate.frames) % 2 ^ 32) (no_halves s.frames.fields)
+    ∙ no_ticks s.rate.ticks s.rate.frames
 
 pub numbers_none : (s : Sending) → s.seq < 2 ^ 32 → ◌≡◌ {A = Numbers} (record { frame = 0; number = s.seq; timestamp = 0 }) (numbers_after s [])
 numbers_none s small = grind (arith, common_steps, none_sent, first_timestamp)

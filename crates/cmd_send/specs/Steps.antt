@@ -29,7 +29,7 @@ use Rattle.vc_types.specs.SenderSettings.{Sending, sending_view}
 -- what a sender goes on with behind frames
 abbrev pub numbers_after : Sending → List Planes → Numbers
 numbers_after s frames = record {
-  frame = length frames % 2 ^ 32;
+  frame = length frames % 2 ^ 63;
   number = (s.seq + length (frames_sent s frames)) % 2 ^ 32;
   timestamp = timestamp_of s (length frames * pictures_per_frame s - 1);
 }

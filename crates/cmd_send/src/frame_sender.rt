@@ -11,6 +11,7 @@ use link_report::Ending;
 use link_sender::{Chooser, SendRefusal, Sender};
 use std::alloc::Global;
 use std::thread::Threads;
+use vc_ports::{NoPace, Pace};
 use vc_types::{NoMemory, Plane, SendSettings, SliceNeed};
 
 /// Sends frames to an outlet, and counts what goes out.
@@ -44,12 +45,13 @@ impl<F: Fn(&SliceNeed) -> u8 + Sync> FrameSender<F> {
         }
     }
 
-    /// Sends a frame: its datagrams go out, or none of them where it is refused.
-    pub(crate) fn take<H: Threads + Copy + Send + Sync, O: Outlet>(
+    /// Sends a frame: its datagrams go out at a pace, or none of them where it is refused.
+    pub(crate) fn take<H: Threads + Copy + Send + Sync, O: Outlet, P: Pace>(
         &mut self,
         rt: H,
         frame: &[Plane; 3],
         outlet: &mut O,
+        pace: &mut P,
     ) -> Result<(), Ending>
         requires callable { F.IsAlwaysCallable self.old.sender.chooser.choose }
         requires range { AnswersAtMost127 F.Fn self.old.sender.chooser.choose }
@@ -70,18 +72,21 @@ impl<F: Fn(&SliceNeed) -> u8 + Sync> FrameSender<F> {
             (O.carried outlet.old outlet.new) (O.broke outlet.old outlet.new) result }
     {
         match self.sender.send_frame_joined(rt, self.workers, frame) {
-            Ok(datagrams) => match self.totals.put_all(&datagrams, outlet) {
-                Ok(()) => {
-                    self.totals.frames += 1;
-                    Ok(())
+            Ok(datagrams) => {
+                let next = self.sender.next_timestamp();
+                match self.totals.put_all(&datagrams, next, outlet, pace) {
+                    Ok(()) => {
+                        self.totals.frames += 1;
+                        Ok(())
+                    }
+                    Err(fault) => Err(put_ending(fault)),
                 }
-                Err(fault) => Err(put_ending(fault)),
-            },
+            }
             Err(refusal) => Err(refusal_ending(refusal)),
         }
     }
 
-    /// Sends the end of the sequence.
+    /// Sends the end of the sequence, at once.
     pub(crate) fn finish<O: Outlet>(&mut self, outlet: &mut O) -> Result<Totals, Ending>
         requires ready { O.is_ready outlet.old }
         requires behind { (sent : List Planes) × (length sent < 2 ^ 32)
@@ -94,7 +99,7 @@ impl<F: Fn(&SliceNeed) -> u8 + Sync> FrameSender<F> {
         let Ok(end) = self.sender.finish() else {
             return Err(Ending::NoMemory);
         };
-        match self.totals.put_all(&[end], outlet) {
+        match self.totals.put_all(&[end], 0, outlet, &mut NoPace) {
             Ok(()) => Ok(self.totals),
             Err(fault) => Err(put_ending(fault)),
         }

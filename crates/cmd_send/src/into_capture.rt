@@ -7,7 +7,7 @@ use link_outside::CaptureOutlet;
 use link_report::{Ending, Summary};
 use std::alloc::Global;
 use std::thread::Threads;
-use vc_ports::{Sink, Source};
+use vc_ports::{NoPace, Sink, Source};
 use vc_types::SendSettings;
 
 /// Encodes at most so many raw frames: reads them one after another, up to one that is refused or the end
@@ -28,7 +28,16 @@ pub fn encode<H: Threads + Copy + Send + Sync, S: Source, O: Sink>(
         (output_of O.held O.faults output.old output.new) }
 {
     let mut outlet = CaptureOutlet::new(output);
-    match send_frames(rt, workers, alloc, s, frames, input, &mut outlet) {
+    match send_frames(
+        rt,
+        workers,
+        alloc,
+        s,
+        frames,
+        input,
+        &mut outlet,
+        &mut NoPace,
+    ) {
         Ok(totals) => Ok(totals.summary()),
         Err(ending) => Err(ending),
     }

@@ -9,6 +9,7 @@ mod over_wire;
 mod sending;
 mod shape;
 mod totals;
+mod turns;
 
 pub use frame_sender::refusal_ending;
 pub use into_capture::encode;

@@ -11,14 +11,15 @@ use link_outside::WireOutlet;
 use link_report::{Ending, Summary};
 use std::alloc::Global;
 use std::thread::Threads;
-use vc_ports::{Reached, Source, Wire};
+use vc_ports::{Pace, Reached, Source, Wire};
 use vc_types::SendSettings;
 
 /// Sends at most so many raw frames to an address: aims the wire, and then reads frames one after another,
 /// up to one that is refused or the end of the input, and sends the datagrams that carry each, and at the
 /// end of the input that of the end of the sequence (RFC 8450). Raw frames are this project's own. Where
-/// the wire can't be aimed, nothing is read. So many threads, at most 64, encode each frame.
-pub fn send<H: Threads + Copy + Send + Sync, S: Source, N: Wire>(
+/// the wire can't be aimed, nothing is read. So many threads, at most 64, encode each frame. The pace has a
+/// datagram wait for its turn.
+pub fn send<H: Threads + Copy + Send + Sync, S: Source, N: Wire, P: Pace>(
     rt: H,
     workers: u32,
     alloc: Global,
@@ -27,6 +28,7 @@ pub fn send<H: Threads + Copy + Send + Sync, S: Source, N: Wire>(
     to: &str,
     input: &mut S,
     wire: &mut N,
+    pace: &mut P,
 ) -> Result<Summary, Ending>
     ensures { SendsOver (sending_view s.now) frames to.now result
         (input_of S.left S.faults input.old input.new)
@@ -36,11 +38,11 @@ pub fn send<H: Threads + Copy + Send + Sync, S: Source, N: Wire>(
         return Err(Ending::WireFailed);
     };
     let mut outlet = WireOutlet::new(wire);
-    send_through(rt, workers, alloc, s, frames, input, &mut outlet)
+    send_through(rt, workers, alloc, s, frames, input, &mut outlet, pace)
 }
 
 // Sends frames to a wire that is aimed.
-fn send_through<H: Threads + Copy + Send + Sync, S: Source, N: Wire>(
+fn send_through<H: Threads + Copy + Send + Sync, S: Source, N: Wire, P: Pace>(
     rt: H,
     workers: u32,
     alloc: Global,
@@ -48,6 +50,7 @@ fn send_through<H: Threads + Copy + Send + Sync, S: Source, N: Wire>(
     frames: u32,
     input: &mut S,
     outlet: &mut WireOutlet<N>,
+    pace: &mut P,
 ) -> Result<Summary, Ending>
     requires aimed { IsTrue (N.told outlet.old.wire.now).aimed }
     ensures borrows { outlet.new.wire.ghost_name ≡ outlet.old.wire.ghost_name }
@@ -56,7 +59,7 @@ fn send_through<H: Threads + Copy + Send + Sync, S: Source, N: Wire>(
         (SentAll (wire_of N.told N.faults outlet.old.wire.now outlet.new.wire.now))
         (SentPart (wire_of N.told N.faults outlet.old.wire.now outlet.new.wire.now)) }
 {
-    let sent = send_frames(rt, workers, alloc, s, frames, input, outlet);
+    let sent = send_frames(rt, workers, alloc, s, frames, input, outlet, pace);
     answer(sent)
 }
 

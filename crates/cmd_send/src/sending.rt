@@ -20,15 +20,15 @@ use link_report::Ending;
 use link_sender::Chooser;
 use std::alloc::Global;
 use std::thread::Threads;
-use vc_ports::{Filled, Source, fill};
+use vc_ports::{Filled, Pace, Source, fill};
 use vc_types::{IndexChoice, SendSettings, Shape, SliceNeed};
 
 /// Sends at most so many raw frames: reads them one after another, up to one that is refused or the end of
 /// the input, and puts the datagrams that carry each, and at the end of the input that of the end of the
 /// sequence. Raw frames are this project's own. The datagrams of a frame go out before the next is read,
 /// one frame and its datagrams are kept, and so many threads, at most 64, encode each frame, which no clause
-/// says. Fewer than two threads do all in turn.
-pub fn send_frames<H: Threads + Copy + Send + Sync, S: Source, O: Outlet>(
+/// says. Fewer than two threads do all in turn. The pace has a datagram wait for its turn.
+pub fn send_frames<H: Threads + Copy + Send + Sync, S: Source, O: Outlet, P: Pace>(
     rt: H,
     workers: u32,
     alloc: Global,
@@ -36,6 +36,7 @@ pub fn send_frames<H: Threads + Copy + Send + Sync, S: Source, O: Outlet>(
     frames: u32,
     input: &mut S,
     outlet: &mut O,
+    pace: &mut P,
 ) -> Result<Totals, Ending>
     requires ready { O.is_ready outlet.old }
     ensures { SendsFrames (sending_view s.now) frames (sent_answer result)
@@ -45,22 +46,28 @@ pub fn send_frames<H: Threads + Copy + Send + Sync, S: Source, O: Outlet>(
     match s.choice {
         IndexChoice::Index(index) => {
             let chooser = Chooser::new(false, |_need: &SliceNeed| index);
-            send_by(rt, workers, alloc, s, frames, chooser, input, outlet)
+            send_by(rt, workers, alloc, s, frames, chooser, input, outlet, pace)
         }
         IndexChoice::Fit(bytes) => {
             let bytes = u64::from(bytes);
             let chooser = Chooser::new(true, |need: &SliceNeed| least_fitting(&need.lens, bytes));
-            send_by(rt, workers, alloc, s, frames, chooser, input, outlet)
+            send_by(rt, workers, alloc, s, frames, chooser, input, outlet, pace)
         }
         IndexChoice::Budget(bytes) => {
             let chooser = Chooser::new(true, |need: &SliceNeed| share_fitting(s, bytes, need));
-            send_by(rt, workers, alloc, s, frames, chooser, input, outlet)
+            send_by(rt, workers, alloc, s, frames, chooser, input, outlet, pace)
         }
     }
 }
 
 // The same by a chooser that chooses as the settings do.
-fn send_by<H: Threads + Copy + Send + Sync, F: Fn(&SliceNeed) -> u8 + Sync, S: Source, O: Outlet>(
+fn send_by<
+    H: Threads + Copy + Send + Sync,
+    F: Fn(&SliceNeed) -> u8 + Sync,
+    S: Source,
+    O: Outlet,
+    P: Pace,
+>(
     rt: H,
     workers: u32,
     alloc: Global,
@@ -69,6 +76,7 @@ fn send_by<H: Threads + Copy + Send + Sync, F: Fn(&SliceNeed) -> u8 + Sync, S: S
     chooser: Chooser<F>,
     input: &mut S,
     outlet: &mut O,
+    pace: &mut P,
 ) -> Result<Totals, Ending>
     requires callable { F.IsAlwaysCallable chooser.choose }
     requires range { AnswersAtMost127 F.Fn chooser.choose }
@@ -88,12 +96,19 @@ fn send_by<H: Threads + Copy + Send + Sync, F: Fn(&SliceNeed) -> u8 + Sync, S: S
         &mut sender,
         input,
         outlet,
+        pace,
     )?;
     sender.finish(outlet)
 }
 
 // Sends the frames of an input, at most so many. It is well where the input ended behind them.
-fn send_each<H: Threads + Copy + Send + Sync, F: Fn(&SliceNeed) -> u8 + Sync, S: Source, O: Outlet>(
+fn send_each<
+    H: Threads + Copy + Send + Sync,
+    F: Fn(&SliceNeed) -> u8 + Sync,
+    S: Source,
+    O: Outlet,
+    P: Pace,
+>(
     rt: H,
     alloc: Global,
     frames: u32,
@@ -101,6 +116,7 @@ fn send_each<H: Threads + Copy + Send + Sync, F: Fn(&SliceNeed) -> u8 + Sync, S:
     sender: &mut FrameSender<F>,
     input: &mut S,
     outlet: &mut O,
+    pace: &mut P,
 ) -> Result<(), Ending>
     requires callable { F.IsAlwaysCallable sender.old.sender.chooser.choose }
     requires range { AnswersAtMost127 F.Fn sender.old.sender.chooser.choose }
@@ -123,7 +139,7 @@ fn send_each<H: Threads + Copy + Send + Sync, F: Fn(&SliceNeed) -> u8 + Sync, S:
     let mut bytes = Vec::new(alloc);
     for frame in 0..frames {
         match read_frame(alloc, input, shape, &mut bytes) {
-            Ok(Some(planes)) => match sender.take(rt, &planes, outlet) {
+            Ok(Some(planes)) => match sender.take(rt, &planes, outlet, pace) {
                 Ok(()) => {}
                 Err(ending) => return Err(ending),
             },

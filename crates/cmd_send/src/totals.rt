@@ -3,9 +3,11 @@ ghost use Rattle.cmd_send.specs.Counted.{HasRoomFor, totals_with};
 ghost use Rattle.link_report.specs.declared.summary.Summary.{Summary};
 ghost use Rattle.link_sender.specs.Packing.{bytes_of_all};
 
+use crate::turns::Turns;
 use link_outside::{Outlet, OutletFault};
 use link_report::Summary;
 use link_sender::Datagram;
+use vc_ports::Pace;
 
 /// How many frames went out, and how many datagrams, and how many bytes these have.
 #[derive(Clone, Copy)]
@@ -27,11 +29,13 @@ impl Totals {
         }
     }
 
-    /// Puts datagrams, and counts them.
-    pub(crate) fn put_all<O: Outlet>(
+    /// Puts a frame's datagrams, each at its turn, and counts them. The next frame has that timestamp.
+    pub(crate) fn put_all<O: Outlet, P: Pace>(
         &mut self,
         datagrams: &[Datagram],
+        next_frame: u32,
         outlet: &mut O,
+        pace: &mut P,
     ) -> Result<(), OutletFault>
         requires ready { O.is_ready outlet.old }
         requires room { HasRoomFor self.old (bytes_of_all datagrams.now) }
@@ -43,7 +47,9 @@ impl Totals {
         ensures totals { OnOk result
             (self.new ≡ totals_with self.old (bytes_of_all datagrams.now)) }
     {
+        let mut turns = Turns::new(datagrams, next_frame);
         for datagram in datagrams {
+            pace.wait(&turns.next());
             match outlet.put(&datagram.bytes) {
                 Ok(()) => {
                     self.datagrams += 1;

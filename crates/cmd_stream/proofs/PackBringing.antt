@@ -55,7 +55,7 @@ module _ (s : Packing) (pictures : List PackedPicture) (p : PackedPicture) (smal
   -- the packer's numbers give the datagrams that are due
   pub due_is : packed_picture s (counts_after s pictures).pictures (counts_after s pictures).sequence p ≡ packed_picture s (length pictures) at p
   due_is =
-      let count : length pictures % 2 ^ 64 ≡ length pictures = omega (arith, small) in
+      let count : length pictures % 2 ^ 63 ≡ length pictures = omega (arith, small) in
       let number : at % 2 ^ 32 % 2 ^ 32 ≡ at % 2 ^ 32 = omega arith in
       ap (λ n. packed_picture s n (at % 2 ^ 32) p) count
       ∙ wrapped s (packed_timestamp s (length pictures) p.number) p (at % 2 ^ 32) at (packed_contents s p) number
@@ -66,7 +66,7 @@ module _ (s : Packing) (pictures : List PackedPicture) (p : PackedPicture) (smal
       long : length (pictures ++ p ∷ []) ≡ length pictures + 1
       long = length-append pictures (p ∷ [])
 
-      number_of : (length pictures % 2 ^ 64 + 1) % 2 ^ 64 ≡ length (pictures ++ p ∷ []) % 2 ^ 64
+      number_of : (length pictures % 2 ^ 63 + 1) % 2 ^ 63 ≡ length (pictures ++ p ∷ []) % 2 ^ 63
       number_of = omega (arith, long)
 
       sent : length (packed_datagrams s (pictures ++ p ∷ [])) ≡ length (packed_datagrams s pictures) + length (packed_picture s (length pictures) at p)
@@ -75,9 +75,9 @@ module _ (s : Packing) (pictures : List PackedPicture) (p : PackedPicture) (smal
       sequence : (at % 2 ^ 32 + count) % 2 ^ 32 ≡ (s.seq + length (packed_datagrams s (pictures ++ p ∷ []))) % 2 ^ 32
       sequence = omega (arith, counted, sent)
 
-      timestamp : packed_timestamp s (length pictures % 2 ^ 64) p.number ≡ timestamp_behind s 0 0 (pictures ++ p ∷ [])
+      timestamp : packed_timestamp s (length pictures % 2 ^ 63) p.number ≡ timestamp_behind s 0 0 (pictures ++ p ∷ [])
       timestamp =
-          let own : length pictures % 2 ^ 64 ≡ length pictures = omega (arith, small) in
+          let own : length pictures % 2 ^ 63 ≡ length pictures = omega (arith, small) in
           ap (λ n. packed_timestamp s n p.number) own ∙ sym (timestamp_more s pictures p)
 
 -- a picture that was packed behind a stream

@@ -12,8 +12,8 @@ use Rattle.cmd_stream.specs.declared.play_fault.TakeFault.TheVariants as faults
 use Rattle.cmd_stream.specs.PlaySteps.{PlayState, stream_state, shown}
 use Rattle.cmd_stream.specs.declared.coding.Coding.{Coding}
 use Rattle.cmd_stream.specs.declared.coding.Coding.TheVariants.{HighQuality, LowDelay}
-use Rattle.cmd_stream.specs.Stream.{Stream, StreamPicture, begun_as, begun_by, code_of, repeats, sequence_in, with_header, with_picture, picture_in, shows, takes, played, paired_frames, raw_frames}
-use Rattle.cmd_stream.specs.Taking.{agreed_state, Agrees, frame_due, Shows, BringsDue, Brought, HasAtMost, CountsAtMost}
+use Rattle.cmd_stream.specs.Stream.{Stream, StreamPicture, begun_as, begun_by, picture_code_of, repeats, sequence_in, with_header, with_picture, picture_in, shows, takes, played, paired_frames, raw_frames}
+use Rattle.cmd_stream.specs.Taking.{agreed_state, Agrees, frame_due, ShowsPicture, BringsDue, Brought, HasAtMost, CountsAtMost}
 use Rattle.cmd_stream.proofs.Showing.{begun, shown-kept, played-more}
 
 abbrev kept_in : Option Stream → Option PlayState
@@ -134,26 +134,26 @@ shown_if s u same =
 
 -- a picture that is coded in another way than the stream's pictures
 pub brings-other-coding : (stream : Option Stream) (u : DataUnit) (k : PlayState) (new : Option PlayState) (before : Option (List ℕ)) → (u.code ≡ 0xC8) ⊎ (u.code ≡ 0xE8) → Some k ≡ kept_in stream
-    → u.code ≢ code_of k.coding → Brought stream u new before before (Err faults.Refused)
+    → u.code ≢ picture_code_of k.coding → Brought stream u new before before (Err faults.Refused)
 brings-other-coding None u k new before code is other = absurd cc
 brings-other-coding (Some s) u k new before code is other =
     let same : k ≡ stream_state s = some_is k (stream_state s) is in
-    let apart : u.code ≢ code_of s.coding = subst (λ (t : PlayState). u.code ≢ code_of t.coding) same other in
-    (takes-picture (Some s) u code ∙ ap (shown_if s u) (ne_eqb u.code (code_of s.coding) apart), refl)
+    let apart : u.code ≢ picture_code_of s.coding = subst (λ (t : PlayState). u.code ≢ picture_code_of t.coding) same other in
+    (takes-picture (Some s) u code ∙ ap (shown_if s u) (ne_eqb u.code (picture_code_of s.coding) apart), refl)
 
 -- a picture behind a header
-module _ (s : Stream) (u : DataUnit) (code : u.code ≡ code_of s.coding) (new : PlayState) (before after : Option (List ℕ)) where
+module _ (s : Stream) (u : DataUnit) (code : u.code ≡ picture_code_of s.coding) (new : PlayState) (before after : Option (List ℕ)) where
   is_picture : (u.code ≡ 0xC8) ⊎ (u.code ≡ 0xE8)
   is_picture = by_coding s.coding code
     where
-      by_coding : (coding : Coding) → u.code ≡ code_of coding → (u.code ≡ 0xC8) ⊎ (u.code ≡ 0xE8)
+      by_coding : (coding : Coding) → u.code ≡ picture_code_of coding → (u.code ≡ 0xC8) ⊎ (u.code ≡ 0xE8)
       by_coding HighQuality e = inr e
       by_coding LowDelay e = inl e
 
   shown-by : (found : Option StreamPicture) → picture_in s.coding s.sequence u.body ≡ found → takes (Some s) u ≡ option_map (λ next. Some next) (option_map (with_picture s) found)
   shown-by found e =
       takes-picture (Some s) u is_picture
-      ∙ ap (shown_if s u) (eq-eqb u.code (code_of s.coding) code)
+      ∙ ap (shown_if s u) (eq-eqb u.code (picture_code_of s.coding) code)
       ∙ ap (λ (picture : Option StreamPicture). option_map (λ next. Some next) (option_map (with_picture s) picture)) e
 
   shows-some : (p : StreamPicture) → picture_in s.coding s.sequence u.body ≡ Some p → takes (Some s) u ≡ Some (Some (with_picture s p))
@@ -165,14 +165,14 @@ module _ (s : Stream) (u : DataUnit) (code : u.code ≡ code_of s.coding) (new :
   abbrev due_for : (p : StreamPicture) → picture_in s.coding s.sequence u.body ≡ Some p → BringsDue (Some s) u
   due_for p e = record { next = Some (with_picture s p); due = frame_due (stream_state s) p; taken = shows-some p e; grows = played-more s p }
 
-  brings-shown : (result : Result (Unit {0}) TakeFault) → Shows u.body (stream_state s) new before after result → Brought (Some s) u (Some new) before after result
+  brings-shown : (result : Result (Unit {0}) TakeFault) → ShowsPicture u.body (stream_state s) new before after result → Brought (Some s) u (Some new) before after result
   brings-shown (Ok done) shown = (due_for shown.picture shown.read, ap (λ (k : PlayState). Some k) (shown.state ∙ shown-kept s shown.picture), shown.grew)
   brings-shown (Err faults.WriteFault) shown = (due_for shown.picture shown.read, shown.grew)
   brings-shown (Err faults.Refused) (e, same) = (shows-none e, same)
   brings-shown (Err faults.NoMemory) same = same
 
-pub brings-picture : (stream : Option Stream) (u : DataUnit) (k new : PlayState) (before after : Option (List ℕ)) (result : Result (Unit {0}) TakeFault) → u.code ≡ code_of k.coding → Some k ≡ kept_in stream
-    → Shows u.body k new before after result → Brought stream u (Some new) before after result
+pub brings-picture : (stream : Option Stream) (u : DataUnit) (k new : PlayState) (before after : Option (List ℕ)) (result : Result (Unit {0}) TakeFault) → u.code ≡ picture_code_of k.coding → Some k ≡ kept_in stream
+    → ShowsPicture u.body k new before after result → Brought stream u (Some new) before after result
 brings-picture None u k new before after result code is shown = absurd cc
 brings-picture (Some s) u k new before after result code is shown =
     let same : k ≡ stream_state s = some_is k (stream_state s) is in

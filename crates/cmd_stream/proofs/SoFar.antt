@@ -5,7 +5,7 @@ use Rattle.std.specs.Option.{option_map}
 use Rattle.vc_types.specs.DataUnits.{DataUnit}
 use Rattle.vc_types.specs.ParseCodes.{header_code, low_delay_code, picture_code}
 use Rattle.vc_ports.proofs.Given.{some_is}
-use Rattle.cmd_stream.specs.Stream.{Stream, StreamPicture, StreamSoFar, at_start, code_of, with_header, with_picture, picture_in, shows, takes, all_taken, units_taken, after_unit, played}
+use Rattle.cmd_stream.specs.Stream.{Stream, StreamPicture, StreamSoFar, at_start, picture_code_of, with_header, with_picture, picture_in, shows, takes, all_taken, units_taken, after_unit, played}
 use Rattle.cmd_stream.specs.Taking.{BringsDue}
 use Rattle.cmd_stream.proofs.PlayBringing.{played-header}
 use Rattle.cmd_stream.proofs.Showing.{played-more}
@@ -59,7 +59,7 @@ coded-grows s new p false e = absurd cc
 
 shown-grows : (stream new : Option Stream) (u : DataUnit) → nested (option_and_then (shows u) stream) ≡ Some new → Grows stream new
 shown-grows None new u e = absurd cc
-shown-grows (Some s) new u e = coded-grows s new (picture_in s.coding s.sequence u.body) (u.code == code_of s.coding) e
+shown-grows (Some s) new u e = coded-grows s new (picture_in s.coding s.sequence u.body) (u.code == picture_code_of s.coding) e
 
 -- a unit that is taken, and what is due for it
 pub taken-grows : (stream new : Option Stream) (u : DataUnit) → takes stream u ≡ Some new → BringsDue stream u

@@ -12,7 +12,7 @@ use Rattle.vc_types.specs.SequenceHeader.{sequence_of}
 -- what a packer goes on with behind pictures
 abbrev pub counts_after : Packing → List PackedPicture → PackCounts
 counts_after s pictures = record {
-  pictures = length pictures % 2 ^ 64;
+  pictures = length pictures % 2 ^ 63;
   sequence = (s.seq + length (packed_datagrams s pictures)) % 2 ^ 32;
   timestamp = timestamp_behind s 0 0 pictures;
 }

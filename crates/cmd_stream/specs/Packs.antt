@@ -15,6 +15,7 @@ use Rattle.stream_model.specs.Packed.{pictures_packed, stream_packed, units_pack
 use Rattle.vc_ports.specs.Changes.{InputChange, OutputChange, Took, Wrote, WrotePart, HasRisen}
 use Rattle.vc_ports.specs.Reading.{IsAtEnd}
 use Rattle.vc_types.specs.DataUnits.{DataUnit}
+use Rattle.vc_types.specs.Rates.{Rate}
 use Rattle.vc_types.specs.SenderSettings.{Packing}
 use Rattle.vc_units.specs.Units.{data_unit}
 use Rattle.vc_units.specs.declared.fault.UnitFault.{UnitFault}
@@ -23,13 +24,13 @@ use Rattle.vc_units.specs.declared.fault.UnitFault.TheVariants.{Short}
 -- ---- the settings
 
 -- how pictures are sent, before a header tells whether they are fields
-abbrev pub pack_settings : ℕ → ℕ → ℕ → ℕ → ℕ → Packing
-pack_settings size ssrc pt seq tick = record {
+abbrev pub pack_settings : ℕ → ℕ → ℕ → ℕ → Rate → Packing
+pack_settings size ssrc pt seq rate = record {
   size = size;
   ssrc = ssrc;
   pt = pt;
   seq = seq;
-  tick = tick;
+  rate = rate;
   fields = false;
 }
 

@@ -27,9 +27,9 @@ profile_of HighQuality = high_quality_profile
 profile_of LowDelay = low_delay_profile
 
 -- the parse code of the pictures
-abbrev pub code_of : Coding → ℕ
-code_of HighQuality = picture_code
-code_of LowDelay = low_delay_code
+abbrev pub picture_code_of : Coding → ℕ
+picture_code_of HighQuality = picture_code
+picture_code_of LowDelay = low_delay_code
 
 -- the planes of a picture's own bytes, if it decodes
 abbrev pub decoded : Coding → Sequence → List ℕ → Option Planes
@@ -94,7 +94,7 @@ with_picture stream p = record {
 -- a picture more, if it is coded as the stream's pictures are and decodes
 abbrev pub shows : DataUnit → Stream → Option Stream
 shows u stream =
-    if u.code == code_of stream.coding then
+    if u.code == picture_code_of stream.coding then
     option_map (with_picture stream) (picture_in stream.coding stream.sequence u.body)
     else None
 

@@ -53,13 +53,13 @@ pub record IsPartlyShown (body : List ℕ) (old : PlayState) (before after : Opt
   pub grew : GrewBySome before after (frame_due old picture)
 
 -- what was done with a picture
-abbrev pub Shows : List ℕ → PlayState → PlayState → Option (List ℕ) → Option (List ℕ)
+abbrev pub ShowsPicture : List ℕ → PlayState → PlayState → Option (List ℕ) → Option (List ℕ)
     → Result (Unit {0}) TakeFault → Type 0
-Shows body old new before after (Ok done) = IsShown body old new before after
-Shows body old new before after (Err faults.WriteFault) = IsPartlyShown body old before after
-Shows body old new before after (Err faults.Refused) =
+ShowsPicture body old new before after (Ok done) = IsShown body old new before after
+ShowsPicture body old new before after (Err faults.WriteFault) = IsPartlyShown body old before after
+ShowsPicture body old new before after (Err faults.Refused) =
     (picture_in old.coding old.sequence body ≡ None) × (after ≡ before)
-Shows body old new before after (Err faults.NoMemory) = after ≡ before
+ShowsPicture body old new before after (Err faults.NoMemory) = after ≡ before
 
 -- a header more: the first one begins a stream, and others repeat it
 abbrev pub agreed_state : Option PlayState → List ℕ → Option PlayState

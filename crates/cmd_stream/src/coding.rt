@@ -1,5 +1,5 @@
 ghost use Rattle.std.specs.Prelude.{◌≡◌};
-ghost use Rattle.cmd_stream.specs.Stream.{code_of, profile_of};
+ghost use Rattle.cmd_stream.specs.Stream.{picture_code_of, profile_of};
 
 use vc_types::{HIGH_QUALITY_PICTURE, HIGH_QUALITY_PROFILE, LOW_DELAY_PICTURE, LOW_DELAY_PROFILE};
 
@@ -23,7 +23,7 @@ impl Coding {
 
     /// The parse code of its pictures.
     pub(crate) fn picture_code(self) -> u8
-        ensures { result ≡ code_of self }
+        ensures { result ≡ picture_code_of self }
     {
         match self {
             Coding::HighQuality => HIGH_QUALITY_PICTURE,

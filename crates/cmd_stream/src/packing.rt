@@ -5,6 +5,7 @@ ghost use Rattle.cmd_stream.specs.PackEndings.{unpacked_ended};
 ghost use Rattle.cmd_stream.specs.PackLooping.{PackLoopEnded};
 ghost use Rattle.cmd_stream.specs.Packs.{Packs, pack_settings};
 ghost use Rattle.cmd_stream.specs.PackViews.{CountsFew, IsBehindUnits};
+ghost use Rattle.vc_types.specs.Rates.{rate_view};
 ghost use Rattle.vc_types.specs.SenderSettings.{packing_view};
 ghost use Rattle.vc_types.specs.Settings.{within};
 
@@ -14,7 +15,7 @@ use crate::stream::StreamPacker;
 use link_report::{Ending, Summary};
 use std::alloc::Global;
 use vc_ports::{Filled, Sink, Source, fill};
-use vc_types::{END_OF_SEQUENCE, PackSettings};
+use vc_types::{END_OF_SEQUENCE, FrameRate, PackSettings};
 use vc_units::{UnitReader, next_unit};
 
 /// Why no unit more is read.
@@ -37,13 +38,13 @@ pub fn pack<S: Source, O: Sink>(
     ssrc: u32,
     pt: u8,
     seq: u32,
-    tick: u32,
+    rate: FrameRate,
     input: &mut S,
     output: &mut O,
 ) -> Result<Summary, Ending>
     requires size { IsTrue (within 64 65507 size) }
     requires pt { pt ≤ 127 }
-    ensures { Packs packets (pack_settings size ssrc pt seq tick) result
+    ensures { Packs packets (pack_settings size ssrc pt seq (rate_view rate)) result
         (input_of S.left S.faults input.old input.new)
         (output_of O.held O.faults output.old output.new) }
 {
@@ -52,7 +53,7 @@ pub fn pack<S: Source, O: Sink>(
         ssrc,
         pt,
         seq,
-        tick,
+        rate,
         fields: false,
     };
     let mut packer = StreamPacker::new(alloc, settings);

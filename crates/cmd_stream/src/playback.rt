@@ -7,7 +7,7 @@ ghost use Rattle.frame_writer.specs.Shapes.{HaveShape};
 ghost use Rattle.cmd_stream.specs.PlayLooping.{unpaired_of};
 ghost use Rattle.cmd_stream.specs.PlaySteps.{stream_state, next_waiting, new_frames};
 ghost use Rattle.cmd_stream.specs.Stream.{begun_as, begun_by, repeats};
-ghost use Rattle.cmd_stream.specs.Taking.{HasShape, CompletesFrame, Shows};
+ghost use Rattle.cmd_stream.specs.Taking.{HasShape, CompletesFrame, ShowsPicture};
 ghost use Rattle.cmd_stream.specs.PlayViews.{playback_state, picture_of};
 
 use crate::coding::Coding;
@@ -92,7 +92,7 @@ impl Playback {
     ) -> Result<(), TakeFault>
         requires few { (self.old.pictures < 2 ^ 32) × (self.old.frames ≤ self.old.pictures) }
         requires shape { HasShape (playback_state self.old) }
-        ensures value { Shows body.items (playback_state self.old) (playback_state self.new)
+        ensures value { ShowsPicture body.items (playback_state self.old) (playback_state self.new)
             (O.held output.old) (O.held output.new) result }
         ensures cause { HasCause (O.faults output.old) (O.faults output.new)
             (result ≡ Err TakeFault.WriteFault) }

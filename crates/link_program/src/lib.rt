@@ -3,6 +3,7 @@
 
 mod link;
 mod page;
+mod wanted;
 mod words;
 
 pub use link::link_main;

@@ -26,8 +26,8 @@ pub enum Answer {
     Stopped(Ending),
     /// It read no further, and judged and wrote all that it had heard.
     Drained(Summary, Ending),
-    /// Either of a pcap file, of which so many records were read; `other` of them carry no datagram. Without an
-    /// ending it came to its end.
+    /// Either of a pcap file, of which so many records were read; `other` of them carry no datagram. Without
+    /// an ending it came to its end.
     WithRecords {
         summary: Summary,
         records: u32,

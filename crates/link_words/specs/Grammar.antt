@@ -10,7 +10,7 @@ use Rattle.link_words.specs.Numbers.{number_within}
 use Rattle.link_words.specs.Options.{option_row, names_of, name_in}
 use Rattle.link_words.specs.declared.options.Values.{Values}
 use Rattle.link_words.specs.declared.options.Values.TheVariants.{Number, Optional, Required}
-use Rattle.link_words.specs.declared.options.Values.TheVariants.{Subsampling, Pair, Address, Text}
+use Rattle.link_words.specs.declared.options.Values.TheVariants.{Subsampling, Pair, Ratio, Address, Text}
 use Rattle.link_words.specs.declared.options.Name.{Name}
 use Rattle.link_words.specs.declared.options.Command.{Command}
 
@@ -32,20 +32,28 @@ sampling_written word =
     else if bytes_eq word (codes "420") then Some S420
     else None
 
--- the place of the first x of a word, or its length
-unfoldable pub cross_of : List ℕ → ℕ
-cross_of word = unwrap_or (position (λ byte. byte == 120) word) (length word)
+-- the place of the first such byte of a word, or its length
+unfoldable pub mark_of : (mark : ℕ) → List ℕ → ℕ
+mark_of mark word = unwrap_or (position (λ byte. byte == mark) word) (length word)
 
 abbrev pub both : Option ℕ → Option ℕ → Option (ℕ × ℕ)
-both (Some across) (Some down) = Some (across, down)
-both (Some across) None = None
-both None down = None
+both (Some first) (Some second) = Some (first, second)
+both (Some first) None = None
+both None second = None
 
--- two numbers of 1 to 65,535 with x between
-unfoldable pub slices_written : List ℕ → Option (ℕ × ℕ)
-slices_written word =
-    let cross = cross_of word in
-    both (number_within 1 65535 (take cross word)) (number_within 1 65535 (drop (cross + 1) word))
+-- two numbers of 1 to a greatest with a mark between
+unfoldable pub pair_written : (mark high : ℕ) → List ℕ → Option (ℕ × ℕ)
+pair_written mark high word =
+    let between = mark_of mark word in
+    both (number_within 1 high (take between word)) (number_within 1 high (drop (between + 1) word))
+
+-- how many slices, with x between
+abbrev pub slices_written : List ℕ → Option (ℕ × ℕ)
+slices_written word = pair_written 120 65535 word
+
+-- so many frames in so many seconds, with : between
+abbrev pub ratio_written : List ℕ → Option (ℕ × ℕ)
+ratio_written word = pair_written 58 4294967295 word
 
 -- 1 to 255 bytes of ASCII
 unfoldable pub is_text : List ℕ → Bool
@@ -63,6 +71,7 @@ accepts (Optional low high) word = is_some (number_within low high word)
 accepts (Required low high) word = is_some (number_within low high word)
 accepts Subsampling word = is_some (sampling_written word)
 accepts Pair word = is_some (slices_written word)
+accepts Ratio word = is_some (ratio_written word)
 accepts Address word = nat_lt 0 (length word)
 accepts Text word = is_text word
 
@@ -77,9 +86,14 @@ abbrev pub is_choice : List ℕ → Bool
 is_choice word = bytes_eq word (codes "--index") || bytes_eq word (codes "--fit")
     || bytes_eq word (codes "--budget")
 
+-- two ways to say how fast frames follow one another
+abbrev pub is_speed : List ℕ → Bool
+is_speed word = bytes_eq word (codes "--tick") || bytes_eq word (codes "--rate")
+
 -- of such names only one may be given, and only once
 abbrev pub excludes : List ℕ → List ℕ → Bool
 excludes earlier later = bytes_eq earlier later || (is_choice earlier && is_choice later)
+    || (is_speed earlier && is_speed later)
 
 -- names stand at the odd places; one that excludes this one stands before it
 abbrev pub excluded_at : List (List ℕ) → ℕ → ℕ → Bool

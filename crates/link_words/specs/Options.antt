@@ -3,16 +3,16 @@ use Rattle.std.specs.Prelude.{ℕ, ⊤, ◌≤◌, List, [], ◌∷◌, ◌++◌
 use Rattle.std.specs.Prelude.{None, if◌then◌else◌, find, Bool, true, false}
 use Rattle.std.specs.Str.{bytes_eq}
 use Rattle.link_words.specs.declared.options.Values.{Values}
-use Rattle.link_words.specs.declared.options.Values.TheVariants.{Number, Optional, Required, Pair}
+use Rattle.link_words.specs.declared.options.Values.TheVariants.{Number, Optional, Required, Pair, Ratio}
 use Rattle.link_words.specs.declared.options.Values.TheVariants.{Subsampling, Address, Text}
 use Rattle.link_words.specs.declared.options.Name.{Name}
 use Rattle.link_words.specs.declared.options.Name.TheVariants.{Width, Height, Sampling, Range, Fields}
 use Rattle.link_words.specs.declared.options.Name.TheVariants.{Top, Wavelet, Depth, Slices, Prefix}
 use Rattle.link_words.specs.declared.options.Name.TheVariants.{Scaler, Size, Index, Fit, Budget, Ssrc, Seq}
-use Rattle.link_words.specs.declared.options.Name.TheVariants.{Picture, Tick, Pt, Frames, Seed, Count}
+use Rattle.link_words.specs.declared.options.Name.TheVariants.{Picture, Tick, Rate, Pt, Frames, Seed, Count}
 use Rattle.link_words.specs.declared.options.Name.TheVariants.{Check, Window, Workers, Packets, Pcap}
-use Rattle.link_words.specs.declared.options.Name.TheVariants.{Port, Sessions, To, At, Every}
-use Rattle.link_words.specs.declared.options.Name.TheVariants.{Reporter, Cname, BySender, Ntp}
+use Rattle.link_words.specs.declared.options.Name.TheVariants.{Port, Sessions, Pace, To, At, Every}
+use Rattle.link_words.specs.declared.options.Name.TheVariants.{Reporter, Cname, BySender, Ntp, Idle}
 use Rattle.link_words.specs.declared.options.Command.{Command}
 use Rattle.link_words.specs.declared.options.Command.TheVariants.{Decode, Encode, Send, Recv, Loop}
 use Rattle.link_words.specs.declared.options.Command.TheVariants.{Unpack, Pack, Play, Gen}
@@ -56,6 +56,7 @@ option_row Ssrc = (codes "--ssrc", Number 0 4294967295 1)
 option_row Seq = (codes "--seq", Number 0 4294967295 0)
 option_row Picture = (codes "--picture", Number 0 4294967295 0)
 option_row Tick = (codes "--tick", Number 0 4294967295 3600)
+option_row Rate = (codes "--rate", Ratio)
 option_row Pt = (codes "--pt", Number 0 127 96)
 option_row Frames = (codes "--frames", Number 1 4294967295 4294967295)
 option_row Seed = (codes "--seed", Number 0 4294967295 0)
@@ -66,7 +67,9 @@ option_row Workers = (codes "--workers", Number 0 64 4)
 option_row Packets = (codes "--packets", Number 1 4294967295 4294967295)
 option_row Pcap = (codes "--pcap", Number 0 1 0)
 option_row Port = (codes "--port", Number 0 65535 0)
+option_row Idle = (codes "--idle", Number 0 86400 0)
 option_row Sessions = (codes "--sessions", Number 1 4294967295 1)
+option_row Pace = (codes "--pace", Number 0 1 1)
 option_row To = (codes "--to", Address)
 option_row At = (codes "--at", Address)
 option_row Every = (codes "--every", Number 1 4294967295 100)
@@ -80,24 +83,24 @@ abbrev pub sender_names : List Name
 sender_names =
     Width ∷ Height ∷ Sampling ∷ Range ∷ Fields ∷ Top
     ∷ Wavelet ∷ Depth ∷ Slices ∷ Prefix ∷ Scaler ∷ Size ∷ Index ∷ Fit ∷ Budget
-    ∷ Ssrc ∷ Seq ∷ Picture ∷ Tick ∷ Pt ∷ Frames ∷ []
+    ∷ Ssrc ∷ Seq ∷ Picture ∷ Tick ∷ Rate ∷ Pt ∷ Frames ∷ []
 
 -- the options of each command
 abbrev pub names_of : Command → List Name
 names_of Decode = Window ∷ Workers ∷ Packets ∷ Pcap ∷ Port ∷ []
 names_of Encode = sender_names ++ Workers ∷ []
-names_of Send = sender_names ++ Workers ∷ To ∷ []
-names_of Recv = Window ∷ Workers ∷ Packets ∷ Sessions ∷ At ∷ []
+names_of Send = sender_names ++ Workers ∷ Pace ∷ To ∷ []
+names_of Recv = Window ∷ Workers ∷ Packets ∷ Sessions ∷ Idle ∷ At ∷ []
 names_of Loop = sender_names ++ Window ∷ Workers ∷ At ∷ []
 names_of Unpack = Window ∷ Workers ∷ Packets ∷ Pcap ∷ Port ∷ []
-names_of Pack = Packets ∷ Size ∷ Ssrc ∷ Pt ∷ Seq ∷ Tick ∷ []
+names_of Pack = Packets ∷ Size ∷ Ssrc ∷ Pt ∷ Seq ∷ Tick ∷ Rate ∷ []
 names_of Play = Packets ∷ []
 names_of Gen =
     Width ∷ Height ∷ Sampling ∷ Range ∷ Fields ∷ Top ∷ Seed ∷ Count ∷ Check ∷ Window ∷ Workers ∷ []
 names_of Rtcp = Every ∷ Reporter ∷ Cname ∷ BySender ∷ Ntp ∷ Packets ∷ Pcap ∷ Port ∷ []
 names_of RtcpShow = Packets ∷ Pcap ∷ Port ∷ []
-names_of Record = Packets ∷ Sessions ∷ At ∷ []
-names_of Replay = Packets ∷ To ∷ []
+names_of Record = Packets ∷ Sessions ∷ Idle ∷ At ∷ []
+names_of Replay = Packets ∷ Pace ∷ To ∷ []
 
 -- the first of some options whose word this is
 abbrev pub name_in : List Name → List ℕ → Option Name

@@ -1,5 +1,5 @@
 -- The settings that words of the grammar mean: what is given, and defaults.
-use Rattle.std.specs.Prelude.{ℕ, ◌+◌, ◌-◌, ◌%◌, List, Bool, ◌&&◌, ◌||◌, not, ◌==◌, nat_lt, Option, Some, None}
+use Rattle.std.specs.Prelude.{ℕ, ◌+◌, ◌-◌, ◌*◌, ◌%◌, List, Bool, ◌&&◌, ◌||◌, not, ◌==◌, nat_lt, Option, Some, None}
 use Rattle.std.specs.Prelude.{if◌then◌else◌, length, unwrap_or, ok_or, option_map, Result, Err, codes}
 use Rattle.std.specs.Str.{bytes_eq}
 use Rattle.std.specs.List.{list_any}
@@ -10,9 +10,11 @@ use Rattle.vc_types.specs.declared.video.Sampling.TheVariants.{S422}
 use Rattle.vc_types.specs.Video.{dimensions_fit}
 use Rattle.vc_types.specs.Limits.{slices_fit}
 use Rattle.vc_types.specs.Settings.{luma_fits, first_picture_fits, default_across, default_down, can_be_sent}
+use Rattle.vc_types.specs.Rates.{Rate as FrameRate}
 use Rattle.vc_types.specs.SenderSettings.{Frames as FramesSent, Generating, Sending}
 use Rattle.link_words.specs.Numbers.{number_within}
 use Rattle.link_words.specs.Grammar.{word_at, first_place, sampling_written, slices_written, is_text}
+use Rattle.link_words.specs.Grammar.{ratio_written}
 use Rattle.link_words.specs.Grammar.{first_bad}
 use Rattle.link_words.specs.Options.{command_of, option_row, names_of, is_required}
 use Rattle.link_words.specs.declared.options.Values.{Values}
@@ -21,10 +23,10 @@ use Rattle.link_words.specs.declared.options.Name.{Name}
 use Rattle.link_words.specs.declared.options.Name.TheVariants.{Width, Height, Sampling, Range, Fields}
 use Rattle.link_words.specs.declared.options.Name.TheVariants.{Top, Wavelet, Depth, Slices, Prefix}
 use Rattle.link_words.specs.declared.options.Name.TheVariants.{Scaler, Size, Index, Fit, Budget, Ssrc, Seq}
-use Rattle.link_words.specs.declared.options.Name.TheVariants.{Picture, Tick, Pt, Frames, Seed, Count}
+use Rattle.link_words.specs.declared.options.Name.TheVariants.{Picture, Tick, Rate, Pt, Frames, Seed, Count}
 use Rattle.link_words.specs.declared.options.Name.TheVariants.{Check, Window, Workers, Packets, Pcap}
-use Rattle.link_words.specs.declared.options.Name.TheVariants.{Port, Sessions, To, At, Every}
-use Rattle.link_words.specs.declared.options.Name.TheVariants.{Reporter, Cname, BySender, Ntp}
+use Rattle.link_words.specs.declared.options.Name.TheVariants.{Port, Sessions, Pace, To, At, Every}
+use Rattle.link_words.specs.declared.options.Name.TheVariants.{Reporter, Cname, BySender, Ntp, Idle}
 use Rattle.link_words.specs.declared.options.Command.{Command}
 use Rattle.link_words.specs.declared.options.Command.TheVariants.{Decode, Encode, Send, Recv, Loop}
 use Rattle.link_words.specs.declared.options.Command.TheVariants.{Unpack, Pack, Play, Gen}
@@ -78,6 +80,16 @@ choice_of words =
     else if is_given words Budget then choices.Budget (given words Budget)
     else choices.Index (given words Index)
 
+-- D seconds have 90,000 * D ticks
+abbrev pub frames_in_seconds : ℕ × ℕ → FrameRate
+frames_in_seconds ratio = record { ticks = 90000 * ratio.1; frames = ratio.0 }
+
+-- that many frames in that many seconds where it is given, and else so many ticks for each frame
+abbrev pub rate_of : List (List ℕ) → FrameRate
+rate_of words = unwrap_or
+    (option_map frames_in_seconds (ratio_written (value_of words Rate)))
+    (record { ticks = given words Tick; frames = 1 })
+
 -- ---- settings without their facts
 
 abbrev pub given_sampling : List (List ℕ) → SamplingKind
@@ -117,7 +129,7 @@ sending_of words =
       ssrc = given words Ssrc;
       seq = given words Seq;
       picture = given words Picture;
-      tick = given words Tick;
+      rate = rate_of words;
       pt = given words Pt;
     }
 
@@ -153,18 +165,18 @@ generator words = if generating_fits (given_frames words) then Some (generating_
 pub data Meaning : Type 0 where
   ToDecode : (window workers packets : ℕ) (pcap : Option ℕ) → Meaning
   ToEncode : (sender : Sending) (frames workers : ℕ) → Meaning
-  ToSend : (sender : Sending) (frames workers : ℕ) (to : List ℕ) → Meaning
-  ToRecv : (window workers packets sessions : ℕ) (at : List ℕ) → Meaning
+  ToSend : (sender : Sending) (frames workers : ℕ) (paced : Bool) (to : List ℕ) → Meaning
+  ToRecv : (window workers packets sessions idle : ℕ) (at : List ℕ) → Meaning
   ToLoop : (sender : Sending) (frames window workers : ℕ) (at : List ℕ) → Meaning
   ToUnpack : (window workers packets : ℕ) (pcap : Option ℕ) → Meaning
-  ToPack : (packets size ssrc pt seq tick : ℕ) → Meaning
+  ToPack : (packets size ssrc pt seq : ℕ) (rate : FrameRate) → Meaning
   ToPlay : (packets : ℕ) → Meaning
   ToGen : (generator : Generating) (check : Bool) (window workers : ℕ) → Meaning
   ToRtcp : (every ssrc : ℕ) (name : List ℕ) (is_sender : Bool) (ntp packets : ℕ) (pcap : Option ℕ)
       → Meaning
   ToRtcpShow : (packets : ℕ) (pcap : Option ℕ) → Meaning
-  ToRecord : (packets sessions : ℕ) (at : List ℕ) → Meaning
-  ToReplay : (packets : ℕ) (to : List ℕ) → Meaning
+  ToRecord : (packets sessions idle : ℕ) (at : List ℕ) → Meaning
+  ToReplay : (packets : ℕ) (paced : Bool) (to : List ℕ) → Meaning
 
 -- what a command is set to, where its settings go together
 unfoldable pub meaning : Command → List (List ℕ) → Option Meaning
@@ -173,10 +185,11 @@ meaning Decode words =
 meaning Encode words =
     option_map (λ s. ToEncode s (given words Frames) (given words Workers)) (sender words)
 meaning Send words = option_map (λ s.
-    ToSend s (given words Frames) (given words Workers) (value_of words To)) (sender words)
+    ToSend s (given words Frames) (given words Workers) (is_set words Pace) (value_of words To))
+    (sender words)
 meaning Recv words =
     Some (ToRecv (given words Window) (given words Workers) (given words Packets)
-    (given words Sessions) (value_of words At))
+    (given words Sessions) (given words Idle) (value_of words At))
 meaning Loop words = option_map (λ s.
     ToLoop s (given words Frames) (given words Window) (given words Workers) (value_of words At))
     (sender words)
@@ -184,7 +197,7 @@ meaning Unpack words =
     Some (ToUnpack (given words Window) (given words Workers) (given words Packets) (pcap_of words))
 meaning Pack words =
     Some (ToPack (given words Packets) (given words Size) (given words Ssrc) (given words Pt)
-    (given words Seq) (given words Tick))
+    (given words Seq) (rate_of words))
 meaning Play words = Some (ToPlay (given words Packets))
 meaning Gen words = option_map (λ g.
     ToGen g (is_set words Check) (given words Window) (given words Workers)) (generator words)
@@ -193,8 +206,10 @@ meaning Rtcp words =
     (is_set words BySender) (given words Ntp) (given words Packets) (pcap_of words))
 meaning RtcpShow words = Some (ToRtcpShow (given words Packets) (pcap_of words))
 meaning Record words =
-    Some (ToRecord (given words Packets) (given words Sessions) (value_of words At))
-meaning Replay words = Some (ToReplay (given words Packets) (value_of words To))
+    Some (ToRecord (given words Packets) (given words Sessions) (given words Idle)
+    (value_of words At))
+meaning Replay words =
+    Some (ToReplay (given words Packets) (is_set words Pace) (value_of words To))
 
 abbrev pub lacks : List (List ℕ) → Name → Bool
 lacks words name = is_required (option_row name).1 && not (is_given words name)

@@ -1,5 +1,6 @@
 -- Settings without their facts.
 use Rattle.std.specs.Prelude.{ℕ, ◌≤◌, IsTrue, List}
+use Rattle.vc_types.specs.Rates.{rate_view}
 use Rattle.vc_types.specs.SenderSettings.{generating_view, sending_view}
 use Rattle.vc_types.specs.Settings.{within}
 use Rattle.link_words.specs.declared.settings.Settings.{Settings}
@@ -14,21 +15,23 @@ use Rattle.link_words.specs.Settings.{ToRecord, ToReplay}
 abbrev pub meaning_view : Settings → Meaning
 meaning_view (Decode window workers packets pcap) = ToDecode window workers packets pcap
 meaning_view (Encode sender frames workers) = ToEncode (sending_view sender) frames workers
-meaning_view (Send sender frames workers to) = ToSend (sending_view sender) frames workers to.now
-meaning_view (Recv window workers packets sessions at) =
-    ToRecv window workers packets sessions at.now
+meaning_view (Send sender frames workers paced to) =
+    ToSend (sending_view sender) frames workers paced to.now
+meaning_view (Recv window workers packets sessions idle at) =
+    ToRecv window workers packets sessions idle at.now
 meaning_view (Loop sender frames window workers at) =
     ToLoop (sending_view sender) frames window workers at.now
 meaning_view (Unpack window workers packets pcap) = ToUnpack window workers packets pcap
-meaning_view (Pack packets size ssrc pt seq tick) = ToPack packets size ssrc pt seq tick
+meaning_view (Pack packets size ssrc pt seq rate) =
+    ToPack packets size ssrc pt seq (rate_view rate)
 meaning_view (Play packets) = ToPlay packets
 meaning_view (Gen generator check window workers) =
     ToGen (generating_view generator) check window workers
 meaning_view (Rtcp every ssrc name is_sender ntp packets pcap) =
     ToRtcp every ssrc name.now is_sender ntp packets pcap
 meaning_view (RtcpShow packets pcap) = ToRtcpShow packets pcap
-meaning_view (Record packets sessions at) = ToRecord packets sessions at.now
-meaning_view (Replay packets to) = ToReplay packets to.now
+meaning_view (Record packets sessions idle at) = ToRecord packets sessions idle at.now
+meaning_view (Replay packets paced to) = ToReplay packets paced to.now
 
 -- of the pictures that are open at a time there are 2 to 8
 abbrev pub IsWindow : ℕ → Type 0
@@ -36,7 +39,7 @@ IsWindow window = (2 ≤ window) × (window ≤ 8)
 
 abbrev pub HasWindow : Settings → Type 0
 HasWindow (Decode window workers packets pcap) = IsWindow window
-HasWindow (Recv window workers packets sessions at) = IsWindow window
+HasWindow (Recv window workers packets sessions idle at) = IsWindow window
 HasWindow (Loop sender frames window workers at) = IsWindow window
 HasWindow (Unpack window workers packets pcap) = IsWindow window
 HasWindow (Gen generator check window workers) = IsWindow window
@@ -48,7 +51,7 @@ pub record ArePackRanges (size pt : ℕ) : Type 0 where
   pub payload_type : pt ≤ 127
 
 abbrev pub CanPack : Settings → Type 0
-CanPack (Pack packets size ssrc pt seq tick) = ArePackRanges size pt
+CanPack (Pack packets size ssrc pt seq rate) = ArePackRanges size pt
 CanPack other = Unit {0}
 
 -- there is a report behind some packet, and a reporter has a name

@@ -2,9 +2,10 @@ ghost use Rattle.std.specs.Prelude.{◌≡◌, ◌<◌, ◌≤◌, ◌%◌, ◌-
 ghost use Rattle.std.specs.Prelude.{IsTrue, IsAscii};
 ghost use Rattle.std.specs.List.{list_all};
 ghost use Rattle.link_words.specs.Options.{option_row, names_of, name_in};
-ghost use Rattle.link_words.specs.Grammar.{word_at, cross_of, sampling_written, slices_written};
+ghost use Rattle.link_words.specs.Grammar.{word_at, mark_of, pair_written, sampling_written};
+ghost use Rattle.link_words.specs.Grammar.{ratio_written, slices_written};
 ghost use Rattle.link_words.specs.Grammar.{is_text, accepts, IsText};
-ghost use Rattle.link_words.specs.Grammar.{accepts_as, is_choice, excludes, excluded_at};
+ghost use Rattle.link_words.specs.Grammar.{accepts_as, is_choice, is_speed, excludes, excluded_at};
 ghost use Rattle.link_words.specs.Grammar.{is_given_before, option_at, word_fits, first_bad};
 
 use crate::numbers::number_within;
@@ -31,31 +32,48 @@ pub(crate) fn sampling_written(word: &str) -> Option<Sampling>
     }
 }
 
-fn first_cross(word: &[u8]) -> Option<usize>
-    ensures value { result ≡ position (λ byte. byte == 120) word.now }
+fn first_mark(mark: u8, word: &[u8]) -> Option<usize>
+    ensures value { result ≡ position (λ byte. byte == mark) word.now }
     ensures range { IfSome result (λ place. place < length word.now) }
 {
-    word.iter().position(|byte| *byte == b'x')
+    word.iter().position(|byte| *byte == mark)
 }
 
-#[tactic(auto, unfolding(crate::specs::Grammar::cross_of))]
-fn cross_of(word: &[u8]) -> usize
-    ensures value { result ≡ cross_of word.now }
+#[tactic(auto, unfolding(crate::specs::Grammar::mark_of))]
+fn mark_of(mark: u8, word: &[u8]) -> usize
+    ensures value { result ≡ mark_of mark word.now }
     ensures range { result ≤ length word.now }
 {
-    first_cross(word).unwrap_or(word.len())
+    first_mark(mark, word).unwrap_or(word.len())
 }
 
-// Two numbers of 1 to 65,535 with `x` between.
-#[tactic(auto, using(crate::proofs::Slices::drop_held), unfolding(crate::specs::Grammar::slices_written))]
+// Two numbers of 1 to a greatest with a mark between.
+#[tactic(auto, using(crate::proofs::Slices::drop_held), unfolding(crate::specs::Grammar::pair_written))]
+fn pair_written(mark: u8, high: u32, word: &[u8]) -> Option<(u32, u32)>
+    ensures value { result ≡ pair_written mark high word.now }
+    ensures range { IfSome result (λ pair. (1 ≤ pair.0) × (1 ≤ pair.1)) }
+{
+    let between = mark_of(mark, word);
+    let (first, _) = word.split_at(between);
+    let (_, second) = word.split_at((between + 1).min(word.len()));
+    let first = number_within(first, 1, high)?;
+    let second = number_within(second, 1, high)?;
+    Some((first, second))
+}
+
+// How many slices, with `x` between.
 pub(crate) fn slices_written(word: &[u8]) -> Option<(u32, u32)>
     ensures { result ≡ slices_written word.now }
 {
-    let (across, _) = word.split_at(cross_of(word));
-    let (_, down) = word.split_at((cross_of(word) + 1).min(word.len()));
-    let across = number_within(across, 1, 65535)?;
-    let down = number_within(down, 1, 65535)?;
-    Some((across, down))
+    pair_written(b'x', 65535, word)
+}
+
+// So many frames in so many seconds, with `:` between.
+pub(crate) fn ratio_written(word: &[u8]) -> Option<(u32, u32)>
+    ensures value { result ≡ ratio_written word.now }
+    ensures range { IfSome result (λ pair. (1 ≤ pair.0) × (1 ≤ pair.1)) }
+{
+    pair_written(b':', 4294967295, word)
 }
 
 #[tactic(auto, using(crate::proofs::Texts::all_ascii))]
@@ -83,6 +101,7 @@ fn accepts(values: Values, word: &str) -> bool
             { number_within(word.as_bytes(), low, high).is_some() }
         Values::Subsampling => sampling_written(word).is_some(),
         Values::Pair => slices_written(word.as_bytes()).is_some(),
+        Values::Ratio => ratio_written(word.as_bytes()).is_some(),
         Values::Address => !word.is_empty(),
         Values::Text => is_text(word),
     }
@@ -103,10 +122,18 @@ fn is_choice(word: &str) -> bool
     word == "--index" || word == "--fit" || word == "--budget"
 }
 
+fn is_speed(word: &str) -> bool
+    ensures { result ≡ is_speed word.now }
+{
+    word == "--tick" || word == "--rate"
+}
+
 fn excludes(earlier: &str, later: &str) -> bool
     ensures { result ≡ excludes earlier.now later.now }
 {
-    earlier == later || (is_choice(earlier) && is_choice(later))
+    earlier == later
+        || (is_choice(earlier) && is_choice(later))
+        || (is_speed(earlier) && is_speed(later))
 }
 
 fn excluded_at(words: &Words, place: usize, earlier: usize) -> bool

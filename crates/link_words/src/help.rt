@@ -2,15 +2,16 @@ ghost use Rattle.std.specs.Prelude.{◌≡◌, Some};
 ghost use Rattle.link_words.specs.Options.{command_of};
 
 use crate::meanings::{COMMANDS, NAMES};
-use crate::options::{Command, Name, Values, names_of, option_row};
+use crate::options::{Command, Name, Values, command_of, names_of, option_row};
 use std::alloc::Global;
 use vc_types::NoMemory;
 
-const HEAD: [&str; 7] = [
+const HEAD: [&str; 8] = [
     "vc2link: VC-2 pictures over RTP (SMPTE ST 2042-1, RFC 8450)",
     "",
     "usage: vc2link COMMAND [--NAME VALUE]..",
     "       vc2link --help",
+    "       vc2link COMMAND --help",
     "       vc2link --version",
     "",
     "Commands, each with what it reads and writes and its options",
@@ -48,6 +49,11 @@ const STATUSES: [&str; 16] = [
     "  14  there are more frames than --frames allows",
 ];
 
+const ELSEWHERE: [&str; 2] = [
+    "",
+    "See vc2link --help for the files, the statuses and the other commands.",
+];
+
 const EXAMPLES: [&str; 7] = [
     "",
     "Examples",
@@ -65,6 +71,32 @@ pub fn help_page(alloc: Global) -> Result<String, NoMemory> {
     let mut page = String::new(alloc);
     push_page(&mut page)?;
     Ok(page)
+}
+
+/// The page of one command: what it reads and writes, and its options with what they mean. None where the
+/// word is no command.
+pub fn command_page(alloc: Global, word: &str) -> Option<Result<String, NoMemory>> {
+    let command = command_of(word)?;
+    let mut page = String::new(alloc);
+    match push_command_page(&mut page, command) {
+        Ok(()) => Some(Ok(page)),
+        Err(NoMemory) => Some(Err(NoMemory)),
+    }
+}
+
+fn push_command_page(page: &mut String, command: Command) -> Result<(), NoMemory> {
+    for (other, job) in &COMMANDS {
+        if *other == command {
+            push_command(page, command, job)?;
+        }
+    }
+    push_words(page, "\nOptions\n")?;
+    for (name, meaning) in &NAMES {
+        if names_of(command).contains(name) {
+            push_option(page, *name, meaning)?;
+        }
+    }
+    push_lines(page, &ELSEWHERE)
 }
 
 fn push_page(page: &mut String) -> Result<(), NoMemory> {
@@ -162,6 +194,10 @@ fn push_values(page: &mut String, values: Values) -> Result<(), NoMemory> {
         Values::Pair => push_words(
             page,
             "two of 1 to 65535 with x between; 16 by 8 samples each by default",
+        ),
+        Values::Ratio => push_words(
+            page,
+            "two of 1 to 4294967295 with : between; none by default",
         ),
         Values::Address => push_words(page, "an address, required"),
         Values::Text => push_words(page, "1 to 255 bytes of ASCII, vc2link by default"),

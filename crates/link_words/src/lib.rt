@@ -13,7 +13,7 @@ mod sender;
 mod settings;
 mod usage;
 
-pub use help::help_page;
+pub use help::{command_page, help_page};
 pub use read::read_words;
 pub use settings::Settings;
 pub use usage::Usage;

@@ -4,12 +4,13 @@ ghost use Rattle.link_words.specs.Grammar.{IsText};
 ghost use Rattle.link_words.specs.Options.{option_row, is_required, HasDefault, IsInRange};
 ghost use Rattle.link_words.specs.Settings.{stands_at, place_of, is_given, value_of};
 ghost use Rattle.link_words.specs.Settings.{number_meant, given, is_set, text_given, choice_of, lacks};
-ghost use Rattle.link_words.specs.Settings.{pcap_of};
+ghost use Rattle.link_words.specs.Settings.{pcap_of, rate_of};
+ghost use Rattle.vc_types.specs.Rates.{rate_view};
 
-use crate::grammar::{is_text, word_at};
+use crate::grammar::{is_text, ratio_written, word_at};
 use crate::numbers::number_within;
 use crate::options::{Name, Values, option_row};
-use vc_types::{IndexChoice, Words};
+use vc_types::{FrameRate, IndexChoice, Words};
 
 fn stands_at(words: &Words, name: Name, place: usize) -> bool
     requires { place < length words.now }
@@ -107,6 +108,20 @@ pub(crate) fn choice_of(words: &Words) -> IndexChoice
         IndexChoice::Budget(given(words, Name::Budget))
     } else {
         IndexChoice::Index(given(words, Name::Index) as u8)
+    }
+}
+
+// That many frames in that many seconds where it is given, and else so many ticks for each frame.
+pub(crate) fn rate_of(words: &Words) -> FrameRate
+    requires { 0 < length words.now }
+    ensures { rate_view result ≡ rate_of words.now }
+{
+    match ratio_written(value_of(words, Name::Rate).as_bytes()) {
+        Some((frames, seconds)) => FrameRate {
+            ticks: 90_000 * u64::from(seconds),
+            frames,
+        },
+        None => FrameRate::of_ticks(given(words, Name::Tick)),
     }
 }
 

@@ -57,7 +57,7 @@ pub(crate) const COMMANDS: [(Command, &str); 13] = [
 ];
 
 /// The options in the order of the page, each with what it means.
-pub(crate) const NAMES: [(Name, &str); 37] = [
+pub(crate) const NAMES: [(Name, &str); 40] = [
     (Name::Width, "samples in a row of luma"),
     (Name::Height, "rows of luma in a frame"),
     (Name::Sampling, "4:4:4, 4:2:2 or 4:2:0"),
@@ -101,8 +101,16 @@ pub(crate) const NAMES: [(Name, &str); 37] = [
         Name::Tick,
         "how far the timestamps of two frames are apart: 3600 is 25 frames a second",
     ),
+    (
+        Name::Rate,
+        "so many frames in so many seconds: 60000:1001 is 59.94 a second; not with --tick",
+    ),
     (Name::Pt, "the payload type in RTP"),
     (Name::Frames, "frames at most"),
+    (
+        Name::Pace,
+        "1: datagrams wait for the moments of their timestamps; 0: they go as fast as they can",
+    ),
     (Name::To, "where datagrams go, as 192.0.2.1:5004"),
     (Name::At, "where datagrams come, as 0.0.0.0:5004"),
     (
@@ -126,6 +134,10 @@ pub(crate) const NAMES: [(Name, &str); 37] = [
         "with --pcap 1: the port to which datagrams go; 0: all ports",
     ),
     (Name::Sessions, "how many ends of sequence are waited for"),
+    (
+        Name::Idle,
+        "seconds without a datagram of use, after which it ends; 0: it waits for ever",
+    ),
     (Name::Seed, "where the noise begins"),
     (Name::Count, "frames that are generated"),
     (

@@ -2,14 +2,15 @@ ghost use Rattle.std.specs.Prelude.{◌≡◌};
 ghost use Rattle.link_words.specs.Options.{command_of, names_of, option_row, name_in, is_required};
 
 use Name::{
-    At, Budget, BySender, Check, Cname, Count, Depth, Every, Fields, Fit, Frames, Height, Index,
-    Ntp, Packets, Pcap, Picture, Port, Prefix, Pt, Range, Reporter, Sampling, Scaler, Seed, Seq,
-    Sessions, Size, Slices, Ssrc, Tick, To, Top, Wavelet, Width, Window, Workers,
+    At, Budget, BySender, Check, Cname, Count, Depth, Every, Fields, Fit, Frames, Height, Idle,
+    Index, Ntp, Pace, Packets, Pcap, Picture, Port, Prefix, Pt, Range, Rate, Reporter, Sampling,
+    Scaler, Seed, Seq, Sessions, Size, Slices, Ssrc, Tick, To, Top, Wavelet, Width, Window,
+    Workers,
 };
-use Values::{Address, Number, Optional, Pair, Required, Subsampling, Text};
+use Values::{Address, Number, Optional, Pair, Ratio, Required, Subsampling, Text};
 
 /// The first word.
-#[derive(Clone, Copy)]
+#[derive(Clone, Copy, PartialEq)]
 pub(crate) enum Command {
     Decode,
     Encode,
@@ -26,9 +27,9 @@ pub(crate) enum Command {
     Replay,
 }
 
-/// The options of all commands. `--frames` is two: how many are sent, and how many are generated. So is `--ssrc`:
-/// a sender's number, and a reporter's.
-#[derive(Clone, Copy)]
+/// The options of all commands. `--frames` is two: how many are sent, and how many are generated. So is
+/// `--ssrc`: a sender's number, and a reporter's.
+#[derive(Clone, Copy, PartialEq)]
 pub(crate) enum Name {
     Width,
     Height,
@@ -49,6 +50,7 @@ pub(crate) enum Name {
     Seq,
     Picture,
     Tick,
+    Rate,
     Pt,
     Frames,
     Seed,
@@ -59,7 +61,9 @@ pub(crate) enum Name {
     Packets,
     Pcap,
     Port,
+    Idle,
     Sessions,
+    Pace,
     To,
     At,
     Every,
@@ -79,8 +83,9 @@ pub(crate) enum Values {
     Required(u32, u32),
     // 444, 422 or 420.
     Subsampling,
-    // Two numbers with `x` between.
+    // Two numbers with `x` between, and two with `:`.
     Pair,
+    Ratio,
     // Any word that is not empty; it has to be given.
     Address,
     // A word of 1 to 255 bytes, all of them ASCII.
@@ -132,6 +137,7 @@ pub(crate) fn option_row(name: Name) -> (&'static str, Values)
         Seq => ("--seq", Number(0, 4294967295, 0)),
         Picture => ("--picture", Number(0, 4294967295, 0)),
         Tick => ("--tick", Number(0, 4294967295, 3600)),
+        Rate => ("--rate", Ratio),
         Pt => ("--pt", Number(0, 127, 96)),
         Frames => ("--frames", Number(1, 4294967295, 4294967295)),
         Seed => ("--seed", Number(0, 4294967295, 0)),
@@ -142,7 +148,9 @@ pub(crate) fn option_row(name: Name) -> (&'static str, Values)
         Packets => ("--packets", Number(1, 4294967295, 4294967295)),
         Pcap => ("--pcap", Number(0, 1, 0)),
         Port => ("--port", Number(0, 65535, 0)),
+        Idle => ("--idle", Number(0, 86400, 0)),
         Sessions => ("--sessions", Number(1, 4294967295, 1)),
+        Pace => ("--pace", Number(0, 1, 1)),
         To => ("--to", Address),
         At => ("--at", Address),
         Every => ("--every", Number(1, 4294967295, 100)),
@@ -161,26 +169,28 @@ pub(crate) fn names_of(command: Command) -> &'static [Name]
         Command::Decode | Command::Unpack => &[Window, Workers, Packets, Pcap, Port],
         Command::Encode => &[
             Width, Height, Sampling, Range, Fields, Top, Wavelet, Depth, Slices, Prefix, Scaler,
-            Size, Index, Fit, Budget, Ssrc, Seq, Picture, Tick, Pt, Frames, Workers,
+            Size, Index, Fit, Budget, Ssrc, Seq, Picture, Tick, Rate, Pt, Frames, Workers,
         ],
         Command::Send => &[
             Width, Height, Sampling, Range, Fields, Top, Wavelet, Depth, Slices, Prefix, Scaler,
-            Size, Index, Fit, Budget, Ssrc, Seq, Picture, Tick, Pt, Frames, Workers, To,
+            Size, Index, Fit, Budget, Ssrc, Seq, Picture, Tick, Rate, Pt, Frames, Workers, Pace,
+            To,
         ],
-        Command::Recv => &[Window, Workers, Packets, Sessions, At],
+        Command::Recv => &[Window, Workers, Packets, Sessions, Idle, At],
         Command::Loop => &[
             Width, Height, Sampling, Range, Fields, Top, Wavelet, Depth, Slices, Prefix, Scaler,
-            Size, Index, Fit, Budget, Ssrc, Seq, Picture, Tick, Pt, Frames, Window, Workers, At,
+            Size, Index, Fit, Budget, Ssrc, Seq, Picture, Tick, Rate, Pt, Frames, Window, Workers,
+            At,
         ],
-        Command::Pack => &[Packets, Size, Ssrc, Pt, Seq, Tick],
+        Command::Pack => &[Packets, Size, Ssrc, Pt, Seq, Tick, Rate],
         Command::Play => &[Packets],
         Command::Gen => &[
             Width, Height, Sampling, Range, Fields, Top, Seed, Count, Check, Window, Workers,
         ],
         Command::Rtcp => &[Every, Reporter, Cname, BySender, Ntp, Packets, Pcap, Port],
         Command::RtcpShow => &[Packets, Pcap, Port],
-        Command::Record => &[Packets, Sessions, At],
-        Command::Replay => &[Packets, To],
+        Command::Record => &[Packets, Sessions, Idle, At],
+        Command::Replay => &[Packets, Pace, To],
     }
 }
 

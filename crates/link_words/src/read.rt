@@ -5,7 +5,7 @@ ghost use Rattle.link_words.specs.Settings.{meaning, lacks_name, settings_of};
 ghost use Rattle.link_words.specs.Views.{meaning_view, CanPack, CanReport, HasWindow};
 
 use crate::grammar::first_bad;
-use crate::lookup::{given, is_set, lacks, pcap_of, text_given, value_of};
+use crate::lookup::{given, is_set, lacks, pcap_of, rate_of, text_given, value_of};
 use crate::options::{Command, Name, command_of, names_of};
 use crate::sender::{generator, sender};
 use crate::settings::Settings;
@@ -42,6 +42,7 @@ fn settings<'a>(command: Command, words: &'a Words) -> Option<Settings<'a>>
             sender: sender(words)?,
             frames,
             workers,
+            paced: is_set(words, Name::Pace),
             to: value_of(words, Name::To),
         },
         Command::Recv => Settings::Recv {
@@ -49,6 +50,7 @@ fn settings<'a>(command: Command, words: &'a Words) -> Option<Settings<'a>>
             workers,
             packets,
             sessions: given(words, Name::Sessions),
+            idle: given(words, Name::Idle),
             at: value_of(words, Name::At),
         },
         Command::Loop => Settings::Loop {
@@ -70,7 +72,7 @@ fn settings<'a>(command: Command, words: &'a Words) -> Option<Settings<'a>>
             ssrc: given(words, Name::Ssrc),
             pt: given(words, Name::Pt) as u8,
             seq: given(words, Name::Seq),
-            tick: given(words, Name::Tick),
+            rate: rate_of(words),
         },
         Command::Play => Settings::Play { packets },
         Command::Gen => Settings::Gen {
@@ -92,10 +94,12 @@ fn settings<'a>(command: Command, words: &'a Words) -> Option<Settings<'a>>
         Command::Record => Settings::Record {
             packets,
             sessions: given(words, Name::Sessions),
+            idle: given(words, Name::Idle),
             at: value_of(words, Name::At),
         },
         Command::Replay => Settings::Replay {
             packets,
+            paced: is_set(words, Name::Pace),
             to: value_of(words, Name::To),
         },
     })

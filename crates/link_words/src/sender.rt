@@ -5,7 +5,7 @@ ghost use Rattle.link_words.specs.Settings.{given_sampling, given_slices, genera
 
 use crate::grammar::{sampling_written, slices_written};
 use crate::joint::{can_be_sent, default_across, default_down, first_picture_fits, luma_fits};
-use crate::lookup::{choice_of, given, is_set, value_of};
+use crate::lookup::{choice_of, given, is_set, rate_of, value_of};
 use crate::options::Name;
 use vc_types::{GenSettings, Sampling, SendSettings, Words, dimensions_fit, slices_fit};
 
@@ -67,7 +67,7 @@ pub(crate) fn sender(words: &Words) -> Option<SendSettings>
         ssrc: given(words, Name::Ssrc),
         seq: given(words, Name::Seq),
         picture,
-        tick: given(words, Name::Tick),
+        rate: rate_of(words),
         pt: given(words, Name::Pt) as u8,
     })
 }

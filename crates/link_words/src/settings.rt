@@ -1,8 +1,8 @@
-use vc_types::{GenSettings, SendSettings};
+use vc_types::{FrameRate, GenSettings, SendSettings};
 
-/// What the words of a command line say: a command and its options, defaults filled in. An address is a word, and
-/// so is a reporter's name. `pcap` is the port of the datagrams in a pcap file, where the input is one and no
-/// capture; port 0 stands for all.
+/// What the words of a command line say: a command and its options, defaults filled in. An address is a word,
+/// and so is a reporter's name. `pcap` is the port of the datagrams in a pcap file, where the input is one and
+/// no capture; port 0 stands for all.
 #[derive(Clone, Copy)]
 pub enum Settings<'a> {
     Decode {
@@ -20,6 +20,7 @@ pub enum Settings<'a> {
         sender: SendSettings,
         frames: u32,
         workers: u32,
+        paced: bool,
         to: &'a str,
     },
     Recv {
@@ -27,6 +28,7 @@ pub enum Settings<'a> {
         workers: u32,
         packets: u32,
         sessions: u32,
+        idle: u32,
         at: &'a str,
     },
     Loop {
@@ -48,7 +50,7 @@ pub enum Settings<'a> {
         ssrc: u32,
         pt: u8,
         seq: u32,
-        tick: u32,
+        rate: FrameRate,
     },
     Play {
         packets: u32,
@@ -75,10 +77,12 @@ pub enum Settings<'a> {
     Record {
         packets: u32,
         sessions: u32,
+        idle: u32,
         at: &'a str,
     },
     Replay {
         packets: u32,
+        paced: bool,
         to: &'a str,
     },
 }

@@ -1,16 +1,24 @@
 //! vc2link: a studio link for VC-2 pictures.
 #![tactic(auto)]
 
-use link_net::UdpWire;
+mod clock_pace;
+mod notes;
+mod std_streams;
+
+use clock_pace::ClockPace;
+use link_net::{Launcher, Limits, LiveWire, Reader};
 use link_program::run_words;
 use link_report::Ending;
+use notes::{say_help, say_no_text, say_notes};
 use slice_pool::{Crew, Worker};
 use std::alloc::Global;
 use std::net::Net;
 use std::process::ExitCode;
 use std::sync::{Arc, Wait};
 use std::thread::Threads;
+use std::time::Clock;
 use std::{env, io};
+use std_streams::{Awaited, hold_closed};
 use vc_ports::{NoGate, Sink, Source, StdSink, StdSource};
 use vc_types::{NoMemory, Words};
 
@@ -25,6 +33,11 @@ fn keep_large_blocks(alloc: Global) -> Result<(), NoMemory> {
     Ok(())
 }
 
+// The status where the words are outside the grammar.
+fn usage_status() -> u8 {
+    Ending::Usage { place: 0 }.status()
+}
+
 // The words behind the program's name, or the status without them. Words that aren't text are outside the
 // grammar.
 fn words_of(rt: &HostRuntime) -> Result<Words, u8> {
@@ -33,7 +46,7 @@ fn words_of(rt: &HostRuntime) -> Result<Words, u8> {
         Err(error) if error.kind() == io::ErrorKind::OutOfMemory => {
             return Err(Ending::NoMemory.status());
         }
-        Err(_) => return Err(Ending::Usage { place: 0 }.status()),
+        Err(_) => return Err(usage_status()),
     };
     let mut words = Words::new(rt.alloc());
     for word in args.skip(1) {
@@ -44,40 +57,73 @@ fn words_of(rt: &HostRuntime) -> Result<Words, u8> {
     Ok(words)
 }
 
-// Does what the words say with a crew at hand, which is stopped whatever that came to.
-fn run<H: Threads + Wait + Net + Copy + Send + Sync + 'static, S: Source, O: Sink, E: Sink>(
+// Of what comes from the network: how many bytes are kept, and how many the system is asked to keep.
+const LIMITS: Limits = Limits {
+    room: 64 << 20,
+    system: 64 << 20,
+};
+
+// Does what the words say with a crew and a wire at hand, which are stopped whatever that came to.
+fn run<H: Threads + Wait + Net + Clock + Copy + Send + Sync + 'static, S: Source, O: Sink, E: Sink>(
     rt: H,
     alloc: Global,
     words: &Words,
     input: &mut S,
     output: &mut O,
     report: &mut E,
+    launcher: Launcher,
 ) -> u8 {
     let Ok(gate) = Arc::new(alloc, NoGate) else {
         return Ending::NoMemory.status();
     };
-    let mut wire = UdpWire::new(rt);
+    let mut wire = LiveWire::new(rt, alloc, LIMITS, launcher);
+    let mut pace = ClockPace::new(rt);
     let mut crew = Crew::new(rt, alloc, |worker: Worker| worker.start(rt, &gate));
     let status = run_words(
-        rt, alloc, words, input, output, report, &mut wire, &mut crew,
+        rt, alloc, words, input, output, report, &mut wire, &mut pace, &mut crew,
     );
     crew.stop();
+    let notes = wire.stop();
+    say_notes(alloc, &notes, status == Ending::WireFailed.status(), report);
+    if status == usage_status() {
+        say_help(report);
+    }
     status
 }
 
 fn main(rt: HostRuntime) -> ExitCode {
+    hold_closed();
     // Where there is no room for the block, blocks come and go as they would.
     let _ = keep_large_blocks(rt.alloc());
-    let status = match words_of(&rt) {
-        Ok(words) => run(
-            rt,
-            rt.alloc(),
-            &words,
-            &mut StdSource::new(rt.stdin()),
-            &mut StdSink::new(rt.stdout()),
-            &mut StdSink::new(rt.stderr()),
-        ),
-        Err(status) => status,
+    let mut report = StdSink::new(Awaited {
+        stream: rt.stderr(),
+        number: 2,
+    });
+    let words = match words_of(&rt) {
+        Ok(words) => words,
+        Err(status) => {
+            if status == usage_status() {
+                say_no_text(&mut report);
+            }
+            return ExitCode::from(status);
+        }
     };
-    ExitCode::from(status)
+    let Ok(start) = Box::new(rt.alloc(), move |reader: Reader| reader.start(rt)) else {
+        return ExitCode::from(Ending::NoMemory.status());
+    };
+    ExitCode::from(run(
+        rt,
+        rt.alloc(),
+        &words,
+        &mut StdSource::new(Awaited {
+            stream: rt.stdin(),
+            number: 0,
+        }),
+        &mut StdSink::new(Awaited {
+            stream: rt.stdout(),
+            number: 1,
+        }),
+        &mut report,
+        Launcher::new(start),
+    ))
 }
