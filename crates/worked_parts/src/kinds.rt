@@ -9,15 +9,21 @@ use worked_common::{Bad, Part};
 /// What a call came to, as text, with one space after each word: the kind of a row says which call, and
 /// what it is given stands behind that.
 pub(crate) fn came(alloc: Global, parts: &[Part], kind: &str, given: &str) -> Result<String, Bad> {
-    let came = came_of_codes(alloc, parts, kind, given)?;
+    let came = came_of_bits(alloc, parts, kind, given)?;
     spread(alloc, parts, came.as_str())
 }
 
-fn came_of_codes(alloc: Global, parts: &[Part], kind: &str, given: &str) -> Result<String, Bad> {
+fn came_of_bits(alloc: Global, parts: &[Part], kind: &str, given: &str) -> Result<String, Bad> {
     match kind {
         "read-bits" => bits::read(alloc, parts, given),
         "read-block" => bits::read_block(alloc, parts, given),
         "write-bits" => bits::write(alloc, given),
+        _ => came_of_codes(alloc, parts, kind, given),
+    }
+}
+
+fn came_of_codes(alloc: Global, parts: &[Part], kind: &str, given: &str) -> Result<String, Bad> {
+    match kind {
         "unsigned" => codes::unsigned(alloc, given),
         "signed" => codes::signed(alloc, given),
         "signed-at-once" => codes::signed_at_once(alloc, given),
@@ -25,6 +31,12 @@ fn came_of_codes(alloc: Global, parts: &[Part], kind: &str, given: &str) -> Resu
         "read-unsigned" => codes::read_unsigned(alloc, parts, given),
         "read-signed" => codes::read_signed(alloc, parts, given),
         "read-signed-at-once" => codes::read_signed_at_once(alloc, parts, given),
+        _ => came_of_headers(alloc, parts, kind, given),
+    }
+}
+
+fn came_of_headers(alloc: Global, parts: &[Part], kind: &str, given: &str) -> Result<String, Bad> {
+    match kind {
         "header" => headers::header(alloc, parts, given),
         "header-of" => headers::header_of(alloc, parts, given),
         "header-cuts" => headers::header_cuts(alloc, parts, given),
@@ -36,11 +48,11 @@ fn came_of_codes(alloc: Global, parts: &[Part], kind: &str, given: &str) -> Resu
 
 fn came_of_others(alloc: Global, parts: &[Part], kind: &str, given: &str) -> Result<String, Bad> {
     let mut all = String::new(alloc);
-    add_of_parts(alloc, parts, kind, given, &mut all)?;
+    add_of_parameters(alloc, parts, kind, given, &mut all)?;
     Ok(all)
 }
 
-fn add_of_parts(
+fn add_of_parameters(
     alloc: Global,
     parts: &[Part],
     kind: &str,
@@ -54,12 +66,36 @@ fn add_of_parts(
         "plan-planes" => parameters::plan_planes(alloc, parts, given, into),
         "low-parameters" => low_delay::low_parameters(alloc, parts, given, into),
         "low-picture" => low_delay::low_picture(alloc, parts, given, into),
+        _ => add_of_datagrams(alloc, parts, kind, given, into),
+    }
+}
+
+fn add_of_datagrams(
+    alloc: Global,
+    parts: &[Part],
+    kind: &str,
+    given: &str,
+    into: &mut String,
+) -> Result<(), Bad> {
+    match kind {
         "rtp" => datagrams::rtp(alloc, parts, given, into),
         "rtp-cuts" => datagrams::rtp_cuts(alloc, parts, given, into),
         "rtp-written" => datagrams::rtp_written(alloc, given, into),
         "payload" => datagrams::payload(alloc, parts, given, into),
         "payload-cuts" => datagrams::payload_cuts(alloc, parts, given, into),
         "payload-written" => datagrams::payload_written(alloc, parts, given, into),
+        _ => add_of_slices(alloc, parts, kind, given, into),
+    }
+}
+
+fn add_of_slices(
+    alloc: Global,
+    parts: &[Part],
+    kind: &str,
+    given: &str,
+    into: &mut String,
+) -> Result<(), Bad> {
+    match kind {
         "cut" => slices::cut_slice(alloc, parts, given, into),
         "cut-cuts" => slices::cut_cuts(alloc, parts, given, into),
         "slice" => slices::slice(alloc, parts, given, into),
@@ -135,6 +171,12 @@ fn add_of_quantisers(alloc: Global, kind: &str, given: &str, into: &mut String) 
         "quantised-at-once" => quantisers::quantised_at_once(alloc, given, into),
         "last-indices" => quantisers::last_indices(alloc, given, into),
         "default-matrix" => quantisers::matrix(alloc, given, into),
+        _ => add_of_sizes(alloc, kind, given, into),
+    }
+}
+
+fn add_of_sizes(alloc: Global, kind: &str, given: &str, into: &mut String) -> Result<(), Bad> {
+    match kind {
         "woven" => fields::woven(alloc, given, into),
         "split" => fields::parts(alloc, given, into),
         "dimensions" => sizes::dimensions(given, into),
@@ -142,11 +184,11 @@ fn add_of_quantisers(alloc: Global, kind: &str, given: &str, into: &mut String) 
         "padded" => sizes::side(alloc, given, into),
         "picture-height" => sizes::height(alloc, given, into),
         "shape" => sizes::shape(alloc, given, into),
-        _ => add_of_planes(alloc, kind, given, into),
+        _ => add_of_lines(alloc, kind, given, into),
     }
 }
 
-fn add_of_planes(alloc: Global, kind: &str, given: &str, into: &mut String) -> Result<(), Bad> {
+fn add_of_lines(alloc: Global, kind: &str, given: &str, into: &mut String) -> Result<(), Bad> {
     match kind {
         "synthesised" => lines::synthesised(alloc, given, into),
         "analysed" => lines::analysed(alloc, given, into),
@@ -157,12 +199,24 @@ fn add_of_planes(alloc: Global, kind: &str, given: &str, into: &mut String) -> R
         "columns-analysed" => lines::columns_analysed(alloc, given, into),
         "synthesis-bound" => lines::synthesis_bound(alloc, given, into),
         "analysis-bound" => lines::analysis_bound(alloc, given, into),
+        _ => add_of_places(alloc, kind, given, into),
+    }
+}
+
+fn add_of_places(alloc: Global, kind: &str, given: &str, into: &mut String) -> Result<(), Bad> {
+    match kind {
         "padding" => places::padding(alloc, given, into),
         "subbands" => places::subbands(alloc, given, into),
         "slice-rectangles" => places::rectangles(alloc, given, into),
         "slice-rectangles-at-once" => places::rectangles_at_once(alloc, given, into),
         "coefficient-counts" => places::lengths(alloc, given, into),
         "coefficient-places" => places::places(alloc, given, into),
+        _ => add_of_planes(alloc, kind, given, into),
+    }
+}
+
+fn add_of_planes(alloc: Global, kind: &str, given: &str, into: &mut String) -> Result<(), Bad> {
+    match kind {
         "inverse" => planes::inverses(alloc, given, into),
         "inverse-sum" => planes::inverse_sum(alloc, given, into),
         "forward" => planes::forwards(alloc, given, into),

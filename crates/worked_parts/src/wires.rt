@@ -5,7 +5,7 @@ ghost use Rattle.vc_ports.specs.MemoryWires.{AreDatagrams, datagrams_in};
 use crate::ports::{add_front, fails};
 use crate::words::{add_bytes, add_word, bytes_of, natural, parted};
 use std::alloc::Global;
-use vc_ports::{Came, MemWire, PlainWire, Reached, Wire};
+use vc_ports::{Came, MemWire, PlainWire, Reached, Sent, Wire};
 use worked_common::{Bad, Part};
 
 fn listen<N: Wire>(wire: &mut N) -> bool
@@ -36,8 +36,8 @@ fn add_sent<N: Wire>(wire: &mut N, datagram: &[u8], into: &mut String) -> Result
         return Err(Bad::NoRow);
     }
     match wire.send(datagram) {
-        Reached::Yes => add_word(into, "sent"),
-        Reached::Failed => add_word(into, "failed"),
+        Sent::Yes | Sent::Lost => add_word(into, "sent"),
+        Sent::Failed => add_word(into, "failed"),
     }
 }
 

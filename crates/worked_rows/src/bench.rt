@@ -1,20 +1,22 @@
 use crate::datagrams::datagrams;
+use crate::lossy_wire::LossyWire;
 use crate::numbers::{Each, Number};
-use crate::setup::Setup;
+use crate::setup::{Setup, Telling};
+use crate::turn_log::TurnLog;
 use link_program::run_words;
 use std::alloc::Global;
 use std::thread::Threads;
-use vc_ports::{Got, MemSink, MemSource, MemWire, Source};
-use vc_slice::Hands;
+use vc_ports::{Got, MemSink, MemSource, MemWire, Source, UntoldWire, Wire};
+use vc_slice::{Hands, NoPlaces};
 use worked_common::Bad;
 
-/// What the program reads, writes and calls in one run.
+/// What the program reads and writes in one run.
 #[derive(Drop)]
 pub(crate) struct Bench {
     input: MemSource,
     pub(crate) output: MemSink,
     pub(crate) report: MemSink,
-    pub(crate) wire: MemWire,
+    pub(crate) pace: TurnLog,
 }
 
 /// What a run came to.
@@ -26,6 +28,7 @@ pub(crate) struct Ran {
     /// Hands that give wrong answers gave some, and kept none.
     pub(crate) gave_back: bool,
     pub(crate) bench: Bench,
+    pub(crate) wire: MemWire,
 }
 
 fn input(alloc: Global, setup: &Setup, number: Number) -> Result<MemSource, Bad> {
@@ -53,8 +56,42 @@ impl Bench {
             input: input(alloc, setup, number)?,
             output: sink(alloc, room, number, Each::Write)?,
             report: sink(alloc, 2_000, number, Each::Report)?,
-            wire: wire(alloc, setup, number)?,
+            pace: TurnLog::new(alloc)?,
         })
+    }
+
+    // Runs the program over a wire, and answers its status.
+    fn run<H: Threads + Copy + Send + Sync, N: Wire, P: Hands>(
+        &mut self,
+        rt: H,
+        alloc: Global,
+        setup: &Setup,
+        wire: &mut N,
+        hands: &mut P,
+    ) -> u8
+        requires { P.is_free hands.old }
+    {
+        run_words(
+            rt,
+            alloc,
+            &setup.words,
+            &mut self.input,
+            &mut self.output,
+            &mut self.report,
+            wire,
+            &mut self.pace,
+            hands,
+        )
+    }
+
+    fn ran(mut self, setup: &Setup, status: u8, wire: MemWire) -> Ran {
+        Ran {
+            status,
+            left: self.left(setup.input.len()),
+            gave_back: true,
+            bench: self,
+            wire,
+        }
     }
 
     // How many bytes of the input are left, of which there are no more than that. They are read.
@@ -84,20 +121,35 @@ pub(crate) fn run_with<H: Threads + Copy + Send + Sync, P: Hands>(
     requires { P.is_free hands.old }
 {
     let mut bench = Bench::new(alloc, setup, number)?;
-    let status = run_words(
-        rt,
-        alloc,
-        &setup.words,
-        &mut bench.input,
-        &mut bench.output,
-        &mut bench.report,
-        &mut bench.wire,
-        hands,
-    );
-    Ok(Ran {
-        status,
-        left: bench.left(setup.input.len()),
-        gave_back: true,
-        bench,
-    })
+    let mut wire = wire(alloc, setup, number)?;
+    let status = bench.run(rt, alloc, setup, &mut wire, hands);
+    Ok(bench.ran(setup, status, wire))
+}
+
+/// Runs the program on a setup, at a number, without hands, over a wire that tells what the setup says.
+pub(crate) fn run_alone<H: Threads + Copy + Send + Sync>(
+    rt: H,
+    alloc: Global,
+    setup: &Setup,
+    number: Number,
+) -> Result<Ran, Bad> {
+    let mut bench = Bench::new(alloc, setup, number)?;
+    let inner = wire(alloc, setup, number)?;
+    match setup.telling {
+        Telling::All => {
+            let mut wire = inner;
+            let status = bench.run(rt, alloc, setup, &mut wire, &mut NoPlaces);
+            Ok(bench.ran(setup, status, wire))
+        }
+        Telling::Nothing => {
+            let mut wire = UntoldWire { inner };
+            let status = bench.run(rt, alloc, setup, &mut wire, &mut NoPlaces);
+            Ok(bench.ran(setup, status, wire.inner))
+        }
+        Telling::NothingLost => {
+            let mut wire = LossyWire { inner };
+            let status = bench.run(rt, alloc, setup, &mut wire, &mut NoPlaces);
+            Ok(bench.ran(setup, status, wire.inner))
+        }
+    }
 }

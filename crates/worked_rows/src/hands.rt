@@ -1,4 +1,4 @@
-use crate::bench::{Ran, run_with};
+use crate::bench::{Ran, run_alone, run_with};
 use crate::numbers::Number;
 use crate::setup::Setup;
 use slice_pool::{Crew, Worker};
@@ -6,7 +6,6 @@ use std::alloc::Global;
 use std::sync::{Arc, Wait};
 use std::thread::Threads;
 use vc_ports::NoGate;
-use vc_slice::NoPlaces;
 use worked_common::{AtOnce, Bad, Given, NoWorkers, TwoPlaces};
 
 /// Who decodes slices.
@@ -46,7 +45,7 @@ pub(crate) fn run<H: Threads + Wait + Copy + Send + Sync + 'static>(
     number: Number,
 ) -> Result<Ran, Bad> {
     match setup.hands {
-        Kind::NoHands => run_with(rt, alloc, setup, number, &mut NoPlaces),
+        Kind::NoHands => run_alone(rt, alloc, setup, number),
         Kind::AtOnce => run_with(rt, alloc, setup, number, &mut AtOnce::new(alloc)),
         Kind::NoWorkers => run_with(rt, alloc, setup, number, &mut NoWorkers),
         Kind::Crew => run_with_crew(rt, alloc, setup, number),

@@ -5,10 +5,12 @@ mod bench;
 mod datagrams;
 mod file;
 mod hands;
+mod lossy_wire;
 mod names;
 mod numbers;
 mod row;
 mod setup;
+mod turn_log;
 mod wants;
 
 use file::run_file;

@@ -8,9 +8,10 @@
 //! - `row NAME` begins a row, and `and NAME` one more that is run on the same: of the keys below, those up
 //!   to `room` stay.
 //! - `words WORD..`, `in BYTES` and `comes BYTES` are the command line, in which `""` is the empty word, the
-//! input, and entries that come from the wire; `is looped`: what is sent comes back after them. `hands
-//! KIND`
-//!   has the kinds of hands.rt. `room N` is the room of the output, and of the wire.
+//!   input, and entries that come from the wire; `is looped`: what is sent comes back after them. `is
+//!   untold`: the wire tells nothing; `is lossy`: nor does it fail to send, but loses the datagram. `hands
+//!   KIND` has the kinds of hands.rt; a wire that tells nothing is run without any. `room N` is the room of
+//!   the output, and of the wire.
 //! - `each read|write|report|wire A..B` runs the row once for each number of that range, at which this call
 //!   of the input, the output, the report or the wire fails; with `each cut A..B` the input has so many
 //!   bytes, and with `each room A..B` the output has room for so many.
@@ -20,13 +21,15 @@
 //!   as entries; the addresses that the wire is asked to listen at, and to send to. What isn't named is
 //!   wanted to be empty. `is end-of-report`: the report has only to end so.
 //! - `left N` is wanted where it is given: so many bytes of the input aren't read.
+//! - `turns T+D*N ..` is wanted where it is given: the pace was told the turns of N datagrams that go out
+//!   over D ticks from timestamp T on, and of the others, one after another.
 //! - `keep NAME` makes a part of the output, for later rows.
 //!
 //! What isn't understood stops the file.
 
 use crate::names::Names;
 use crate::numbers::Numbers;
-use crate::setup::Setup;
+use crate::setup::{Setup, Telling};
 use crate::wants::Wants;
 use std::alloc::Global;
 use worked_common::Bad;
@@ -86,6 +89,7 @@ impl Row {
             "sent" => self.wants.add_sent(alloc, names, text),
             "at" => self.wants.add_listening(text),
             "to" => self.wants.add_aiming(text),
+            "turns" => self.wants.set_turns(alloc, text),
             "tally" => self.wants.add_tally(alloc, names, text),
             "report" => self.wants.add_line(text),
             _ => Err(Bad::NoRow),
@@ -100,6 +104,8 @@ impl Row {
     fn set_flag(&mut self, text: &str) -> Result<(), Bad> {
         match text {
             "looped" => self.setup.looped = true,
+            "untold" => self.setup.telling = Telling::Nothing,
+            "lossy" => self.setup.telling = Telling::NothingLost,
             "end-of-report" => self.wants.only_end = true,
             _ => return Err(Bad::NoRow),
         }

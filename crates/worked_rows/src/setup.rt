@@ -4,6 +4,15 @@ use std::alloc::Global;
 use vc_types::Words;
 use worked_common::{Bad, put};
 
+/// What the wire tells.
+#[derive(Clone, Copy, Drop)]
+pub(crate) enum Telling {
+    All,
+    Nothing,
+    /// Nothing, and a datagram that fails to be sent is lost.
+    NothingLost,
+}
+
 /// What the program is run on.
 #[derive(Drop)]
 pub(crate) struct Setup {
@@ -13,6 +22,7 @@ pub(crate) struct Setup {
     pub(crate) comes: Vec<u8>,
     /// Whether what is sent comes back.
     pub(crate) looped: bool,
+    pub(crate) telling: Telling,
     /// How many bytes there may be of the output.
     pub(crate) room: usize,
     pub(crate) hands: Kind,
@@ -30,6 +40,7 @@ impl Setup {
             input: Vec::new(alloc),
             comes: Vec::new(alloc),
             looped: false,
+            telling: Telling::All,
             room: 20_000,
             hands: Kind::NoHands,
         }

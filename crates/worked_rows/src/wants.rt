@@ -22,6 +22,8 @@ pub(crate) struct Wants {
     to: Words,
     /// How many bytes of the input aren't read, where the row says so.
     left: Option<usize>,
+    /// The turns that the pace is told, where the row says so.
+    turns: Option<String>,
 }
 
 impl Wants {
@@ -35,6 +37,7 @@ impl Wants {
             at: Words::new(alloc),
             to: Words::new(alloc),
             left: None,
+            turns: None,
         }
     }
 
@@ -51,6 +54,11 @@ impl Wants {
             return Err(Bad::NoRow);
         };
         self.left = Some(left);
+        Ok(())
+    }
+
+    pub(crate) fn set_turns(&mut self, alloc: Global, text: &str) -> Result<(), Bad> {
+        self.turns = Some(String::from_str(alloc, text)?);
         Ok(())
     }
 
@@ -131,7 +139,12 @@ impl Wants {
         if !ran.gave_back {
             return Some("number of answers that the hands gave back");
         }
-        self.differs_on_wire(&ran.bench.wire)
+        if let Some(turns) = &self.turns {
+            if !ran.bench.pace.are(turns.as_str()) {
+                return Some("list of turns");
+            }
+        }
+        self.differs_on_wire(&ran.wire)
     }
 
     fn differs_on_wire(&self, wire: &MemWire) -> Option<&'static str> {

@@ -10,7 +10,7 @@ ghost use Rattle.vc_types.specs.declared.video.Sampling.TheVariants.{S444};
 use link_sender::{Chooser, Datagram, Sender};
 use std::alloc::Global;
 use std::test::Fail;
-use vc_types::{IndexChoice, NoMemory, Plane, Sampling, SendSettings, SliceNeed};
+use vc_types::{FrameRate, IndexChoice, NoMemory, Plane, Sampling, SendSettings, SliceNeed};
 
 // Frames of 8 by 4 samples, 4:4:4, 8 bits, by wavelet 3 at depth 1 in two slices side by side, each with 12
 // bytes before it. A datagram has room for 32 bytes of them.
@@ -35,7 +35,7 @@ fn two_slices() -> SendSettings
         ssrc: 1,
         seq: 0,
         picture: 0,
-        tick: 3600,
+        rate: FrameRate::of_ticks(3600),
         pt: 96,
     }
 }
@@ -47,24 +47,24 @@ const SLICES: [u8; 64] = [
     1, 0, 0, 0,
 ];
 
-fn grey(alloc: Global, width: u32, height: u32) -> Result<Plane, NoMemory>
+fn plain(alloc: Global, width: u32, height: u32, sample: u16) -> Result<Plane, NoMemory>
     requires { (width ≤ 8) × (height ≤ 8) }
     ensures { IfOk result (λ p. (p.width ≡ width) × (p.height ≡ height)) }
 {
-    let samples = vec![in alloc; 0x80u16; (width * height) as usize]?;
+    let samples = vec![in alloc; sample; (width * height) as usize]?;
     Ok(Plane::new(width, height, samples))
 }
 
-// A frame that is sent so, all of it grey.
-fn grey_frame(alloc: Global, settings: &SendSettings) -> Result<[Plane; 3], NoMemory>
+// A frame that is sent so, of one sample over and over.
+fn plain_frame(alloc: Global, settings: &SendSettings, sample: u16) -> Result<[Plane; 3], NoMemory>
     requires size { (settings.now.width ≤ 8) × (settings.now.height ≤ 8) }
     requires sampling { settings.now.sampling ≡ S444 }
     ensures { IfOk result (λ f. IsFrame (sending_view settings.now) (planes_in f)) }
 {
     let (width, height) = (settings.width, settings.height);
-    let y = grey(alloc, width, height)?;
-    let c1 = grey(alloc, width, height)?;
-    let c2 = grey(alloc, width, height)?;
+    let y = plain(alloc, width, height, sample)?;
+    let c1 = plain(alloc, width, height, sample)?;
+    let c2 = plain(alloc, width, height, sample)?;
     Ok([y, c1, c2])
 }
 
@@ -83,14 +83,28 @@ fn sent<F: Fn(&SliceNeed) -> u8>(
     }
 }
 
+// Whether a frame is refused.
+fn is_refused<F: Fn(&SliceNeed) -> u8>(sender: &mut Sender<F>, frame: &[Plane; 3]) -> bool
+    requires callable { F.IsAlwaysCallable sender.old.chooser.choose }
+    requires range { AnswersAtMost127 F.Fn sender.old.chooser.choose }
+    requires sizes { IsFrame (sending_view sender.old.settings) (planes_in frame.now) }
+    ensures settings { sender.new.settings ≡ sender.old.settings }
+    ensures chooser { sender.new.chooser ≡ sender.old.chooser }
+{
+    sender.send_frame(frame).is_err()
+}
+
 #[test]
 fn a_slice_has_the_index_that_a_chooser_answers_on_its_number(rt: HostRuntime) -> Result<(), Fail> {
     let alloc = rt.alloc();
     let settings = two_slices();
-    let frame = grey_frame(alloc, &settings)?;
+    let white = plain_frame(alloc, &settings, 0xff)?;
+    let grey = plain_frame(alloc, &settings, 0x80)?;
     let chooser = Chooser::new(false, |need: &SliceNeed| (need.index % 2) as u8);
     let mut sender = Sender::new(alloc, settings, chooser);
-    let datagrams = sent(&mut sender, &frame)?;
+    // Its slices have 40 bytes, which is too much, and it takes no number.
+    assert!(rt; is_refused(&mut sender, &white));
+    let datagrams = sent(&mut sender, &grey)?;
     assert_eq!(rt; datagrams.len(), 3);
     assert_eq!(rt; datagrams[2].bytes.as_slice(), SLICES.as_slice());
     Ok(())

@@ -7,7 +7,7 @@ use std::alloc::Global;
 use std::sync::Arc;
 use std::test::Fail;
 use std::thread::Threads;
-use vc_ports::{Got, PlainSource, Source};
+use vc_ports::{Got, NoPace, PlainSource, Source};
 use vc_slice::Hands;
 use worked_common::{Doorkeeper, HEADER_PAYLOAD, slice_payload};
 
@@ -84,6 +84,7 @@ fn is_frame_written<H: Threads + Copy + Send + Sync, P: Hands>(
         &mut outside.output,
         &mut outside.report,
         &mut outside.wire,
+        &mut NoPace,
         hands,
     );
     Ok(status == 0 && input.in_time && outside.output.bytes() == [0x80; 96].as_slice())

@@ -5,7 +5,7 @@ use link_program::link_main;
 use std::alloc::Global;
 use std::test::Fail;
 use std::thread::Threads;
-use vc_ports::MemSource;
+use vc_ports::{MemSink, MemSource, NoPace};
 use worked_common::{HEADER_PAYLOAD, Recorder, params_payload, slice_payload};
 
 // The number of picture 0.
@@ -31,14 +31,16 @@ fn loss_and_disorder(alloc: Global) -> Result<Vec<u8>, Fail> {
     )
 }
 
-// Whether pictures 0 and 3 are written.
-fn are_two_frames<H: Threads + Copy + Send + Sync>(
+// What a command writes by these words, and its status.
+fn run<H: Threads + Copy + Send + Sync>(
     rt: H,
     alloc: Global,
+    words: &str,
+    input: Vec<u8>,
     hands: &mut Recorder,
-) -> Result<bool, Fail> {
-    let words = words_of(alloc, "decode --window 2 --workers 3")?;
-    let mut input = MemSource::new(loss_and_disorder(alloc)?, Vec::new(alloc));
+) -> Result<(u8, MemSink), Fail> {
+    let words = words_of(alloc, words)?;
+    let mut input = MemSource::new(input, Vec::new(alloc));
     let mut outside = Outside::new(alloc, 192)?;
     let status = link_main(
         rt,
@@ -48,9 +50,21 @@ fn are_two_frames<H: Threads + Copy + Send + Sync>(
         &mut outside.output,
         &mut outside.report,
         &mut outside.wire,
+        &mut NoPace,
         hands,
     );
-    Ok(status == 0 && outside.output.bytes() == [0x80; 192].as_slice())
+    Ok((status, outside.output))
+}
+
+// Whether pictures 0 and 3 are written.
+fn are_two_frames<H: Threads + Copy + Send + Sync>(
+    rt: H,
+    alloc: Global,
+    hands: &mut Recorder,
+) -> Result<bool, Fail> {
+    let capture = loss_and_disorder(alloc)?;
+    let (status, output) = run(rt, alloc, "decode --window 2 --workers 3", capture, hands)?;
+    Ok(status == 0 && output.bytes() == [0x80; 192].as_slice())
 }
 
 // They are released one after another, and none of their slices came back.
@@ -69,5 +83,26 @@ fn each_slice_is_offered_as_it_comes_and_its_place_freed(rt: HostRuntime) -> Res
     assert!(rt; hands.was_offered(&offered));
     assert_eq!(rt; hands.started(), [3].as_slice());
     assert_eq!(rt; hands.freed(), [0, 1, 2, 3, 4].as_slice());
+    Ok(())
+}
+
+// How many workers a command starts by these words.
+const STARTED: [(&str, &[u32]); 3] = [
+    ("decode --workers 7", &[7]),
+    (
+        "gen --width 34 --height 20 --frames 1 --check 1 --workers 2",
+        &[2],
+    ),
+    ("play", &[]),
+];
+
+#[test]
+fn as_many_workers_are_started_as_asked_for(rt: HostRuntime) -> Result<(), Fail> {
+    let alloc = rt.alloc();
+    for (words, started) in STARTED {
+        let mut hands = Recorder::new(alloc, 100)?;
+        run(&rt, alloc, words, Vec::new(alloc), &mut hands)?;
+        assert_eq!(rt; hands.started(), started);
+    }
     Ok(())
 }

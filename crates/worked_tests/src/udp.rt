@@ -1,9 +1,10 @@
 //! The system's sockets.
 
-use link_net::UdpWire;
+use link_net::{Launcher, Limits, LiveWire, Reader, WireNotes};
 use std::alloc::Global;
 use std::test::Fail;
-use vc_ports::{Came, Reached, Wire};
+use std::time::{Clock, Duration, Instant};
+use vc_ports::{Came, Reached, Sent, Wire};
 
 // Any of them may be in use.
 const PLACES: [&str; 4] = [
@@ -12,6 +13,11 @@ const PLACES: [&str; 4] = [
     "127.0.0.1:52433",
     "127.0.0.1:53441",
 ];
+
+const LIMITS: Limits = Limits {
+    room: 1 << 20,
+    system: 1 << 20,
+};
 
 // What comes from a wire that three bytes are sent over to itself, if it can have the place.
 fn comes_back<N: Wire>(
@@ -26,7 +32,7 @@ fn comes_back<N: Wire>(
     let Reached::Yes = wire.aim(place) else {
         return Ok(None);
     };
-    let Reached::Yes = wire.send(&[1, 2, 3]) else {
+    let Sent::Yes = wire.send(&[1, 2, 3]) else {
         return Ok(None);
     };
     let came = wire.recv(&mut buf);
@@ -36,8 +42,50 @@ fn comes_back<N: Wire>(
 #[test]
 fn three_bytes_come_back(rt: HostRuntime) -> Result<(), Fail> {
     for place in PLACES {
-        if let Some(came) = comes_back(&mut UdpWire::new(&rt), place, rt.alloc())? {
+        let start = Box::new(rt.alloc(), move |reader: Reader| reader.start(rt))?;
+        let mut wire = LiveWire::new(rt, rt.alloc(), LIMITS, Launcher::new(start));
+        let came = comes_back(&mut wire, place, rt.alloc());
+        let notes = wire.stop();
+        if let Some(came) = came? {
             assert_eq!(rt; came, (Came::Datagram(3), [1, 2, 3]));
+            assert_eq!(rt; (notes.unsent, dropped(&notes)), (0, Some(0)));
+            return Ok(());
+        }
+    }
+    Err("no place is free")?
+}
+
+fn dropped(notes: &WireNotes) -> Option<u64> {
+    notes.backlog.map(|backlog| backlog.dropped)
+}
+
+// What comes after so long from a wire to which nothing is sent, if it can have the place.
+fn silence<C: Clock, N: Wire>(
+    clock: &C,
+    wire: &mut N,
+    place: &str,
+    alloc: Global,
+) -> Result<Option<(Came, Duration)>, Fail> {
+    let mut buf = vec![in alloc; 0; 65535]?;
+    wire.end_after(1);
+    let start = Instant::now(clock)?;
+    let Reached::Yes = wire.listen(place) else {
+        return Ok(None);
+    };
+    let came = wire.recv(&mut buf);
+    Ok(Some((came, start.elapsed(clock)?)))
+}
+
+#[test]
+fn silence_ends_after_its_second_and_no_sooner(rt: HostRuntime) -> Result<(), Fail> {
+    for place in PLACES {
+        let start = Box::new(rt.alloc(), move |reader: Reader| reader.start(rt))?;
+        let mut wire = LiveWire::new(rt, rt.alloc(), LIMITS, Launcher::new(start));
+        let came = silence(&rt, &mut wire, place, rt.alloc());
+        wire.stop();
+        if let Some((came, after)) = came? {
+            assert_eq!(rt; came, Came::End);
+            assert!(rt; after >= Duration::from_secs(1));
             return Ok(());
         }
     }
