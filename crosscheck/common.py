@@ -1,4 +1,4 @@
-"""What the scripts of crosscheck/ and bench/ share: their names, usages and needs, and a run of the program."""
+"""What the scripts of crosscheck/ and bench/ share: their names, usages and needs, a run of the program, and captures."""
 
 import argparse
 import os
@@ -49,6 +49,33 @@ def positive(word):
     if number < 1:
         raise ValueError
     return number
+
+
+def size(word):
+    """The width and the height in a word such as 1920x1080."""
+    width, height = map(positive, word.split("x"))
+    return width, height
+
+
+def entry(datagram):
+    """A capture's entry: the datagram's length in two bytes, and the datagram."""
+    return len(datagram).to_bytes(2, "big") + datagram
+
+
+def capture_of(datagrams):
+    return b"".join(map(entry, datagrams))
+
+
+def datagrams_of(capture):
+    """The datagrams of a capture's whole entries."""
+    datagrams, at = [], 0
+    while at + 2 <= len(capture):
+        end = at + 2 + int.from_bytes(capture[at : at + 2], "big")
+        if end > len(capture):
+            break
+        datagrams.append(capture[at + 2 : end])
+        at = end
+    return datagrams
 
 
 def run(program, words, given=b"", **more):

@@ -1,8 +1,9 @@
 """What `rtcp` and `rtcp-show` give, by RFC 3550: the algorithms of A.1 and A.3 as they stand there, and the packets of 6.4 and 6.5.
 
-Two things are this project's own: in probation 0 comes behind 65,535, and the fields that need a clock are 0.
+Two things are this project's own: in probation 0 follows 65,535, and the fields that need a clock are 0.
 """
 
+from common import capture_of
 from receiver import rtp
 
 RTP_SEQ_MOD = 1 << 16
@@ -76,10 +77,6 @@ def description(ssrc, name):
     return packet(1, 202, item + bytes(4 - len(item) % 4))
 
 
-def entry(datagram):
-    return len(datagram).to_bytes(2, "big") + datagram
-
-
 def split(capture, packets):
     """The datagrams of a capture, the status and the line of the status."""
     found, at = [], 0
@@ -124,7 +121,7 @@ def report(capture, every=100, ssrc=2, name=b"vc2link", is_sender=False, ntp=0, 
     if due:
         write()
     counts = f"datagrams {len(datagrams)}\npackets {count}\nreports {len(reports)}\n"
-    return status, b"".join(map(entry, reports)), line or counts
+    return status, capture_of(reports), line or counts
 
 
 def shown(compound):
