@@ -1,5 +1,6 @@
-//! The claim board: places where a feeder puts slices and workers claim them. A step is one atomic
-//! operation on the word of one place; nothing waits, and nothing but `Board::new` takes memory.
+//! The claim board: places where a feeder puts slices and workers claim them. A step is one atomic operation
+//! on the word of one place. No call waits except `rest`, in which an idle worker parks, and only the two
+//! constructors, `Board::new` and `BoardFeeder::new`, take memory.
 #![tactic(auto)]
 
 mod board;

@@ -13,12 +13,12 @@ use std::alloc::Global;
 use vc_ports::{Sink, Source};
 use vc_slice::{Hands, Places};
 
-/// Decodes a capture, or a pcap file: reads at most so many entries, or records, takes the datagrams of them,
-/// with so many pictures open at a time (2 to 8), and writes the raw frames that the datagrams make. A frame
-/// goes out as soon as its pictures are let go. Each slice that a picture keeps is offered to so
-/// many workers; what they don't decode in time is decoded here. Where the input fails, or ends
-/// within an entry or a record, or has one byte more than so many, or where a pcap file has no head or a
-/// record that is too long, the frames of what was heard are written all the same.
+/// Decodes a capture, or a pcap file: reads at most `packets` entries, or records, takes their datagrams with
+/// up to `window` pictures open (2 to 8), and writes the raw frames that they make. A frame is written as
+/// soon as its pictures are released. Each slice that a picture keeps is offered to `workers` workers; those
+/// that they don't decode in time are decoded here. If the input fails, ends within an entry or a record, or
+/// has a byte more than these entries, or if a pcap file has no head or a record that is too long, the frames
+/// of the datagrams received so far are still written.
 pub fn decode<S: Source, O: Sink, P: Hands>(
     alloc: Global,
     window: u8,

@@ -20,13 +20,13 @@ use vc_ports::{NoPace, Reached, Sink, Source, Wire};
 use vc_slice::{Hands, Places};
 use vc_types::SendSettings;
 
-/// Loops at most so many raw frames over a wire: listens at an address and aims there, and then reads
-/// frames one after another, sends each datagram that carries one, and that of the end of the sequence
-/// (RFC 8450), and receives once after each. What comes is heard with so many pictures open at a time
-/// (2 to 8), and its raw frames are written. Each slice that a picture keeps is offered to so many
-/// workers, and as many threads, at most 64, encode each frame. Where sending stops, the frames of what
-/// was heard are written all the same, unless the output failed or memory ran out. Where the wire doesn't
-/// come to listen or to be aimed, nothing is read. Raw frames are this project's own.
+/// Sends at most `frames` raw frames over a wire, and receives them back: listens at an address and aims
+/// there, then reads frames one after another, sends each datagram that carries one, and at the end that of
+/// the end of the sequence (RFC 8450), and receives once after each. Up to `window` pictures are open (2 to
+/// 8), and the raw frames of the datagrams that come are written. Each slice that a picture keeps is offered
+/// to `workers` workers, and the same number of threads, at most 64, encodes each frame. If sending stops
+/// early, the frames of the datagrams received so far are still written, unless the output failed or memory
+/// ran out. If listening or aiming fails, no input is read. Raw frames are this project's own.
 pub fn loop_back<H: Threads + Copy + Send + Sync, S: Source, O: Sink, N: Wire, P: Hands>(
     rt: H,
     alloc: Global,

@@ -18,11 +18,11 @@ use std::alloc::Global;
 use vc_ports::{Reached, Sink, Wire};
 use vc_slice::{Hands, Places};
 
-/// Receives datagrams at an address, at most so many, until so many sessions have ended, with so many
-/// pictures open at a time (2 to 8), and writes the raw frames that the datagrams make. A frame goes out as
-/// soon as its pictures are let go. Each slice that a picture keeps is offered to so many workers; what
-/// they don't decode in time is decoded here. Where the wire fails, or as many datagrams came as were asked
-/// for, the frames of what was heard are written all the same. A wire that tells nothing ends once so many
+/// Receives at most `packets` datagrams at an address, until `sessions` sessions have ended, with up to
+/// `window` pictures open (2 to 8), and writes the raw frames that they make. A frame is written as soon as
+/// its pictures are released. Each slice that a picture keeps is offered to `workers` workers; those that
+/// they don't decode in time are decoded here. If the wire fails, or `packets` datagrams have come, the
+/// frames of the datagrams received so far are still written. A wire that tells nothing ends once `idle`
 /// seconds have brought the session nothing new; with 0 it never does.
 pub fn recv<N: Wire, O: Sink, P: Hands>(
     alloc: Global,

@@ -14,10 +14,10 @@ use vc_types::NoMemory;
 // Any datagram has room in so many bytes.
 const ROOM: usize = 65535;
 
-/// Records the datagrams that come to an address, whatever they are, at most so many, until so many sessions
-/// have ended, and writes each as the entry of a capture before the next is asked for. Where the wire fails,
-/// or as many datagrams came as were asked for, the counts are answered all the same. A wire that tells
-/// nothing ends once no datagram has come for so many seconds; with 0 it never does.
+/// Records the datagrams that come to an address, whatever they are, at most `packets` of them, until
+/// `sessions` sessions have ended, and writes each as an entry of a capture before it asks for the next. If
+/// the wire fails, or `packets` datagrams have come, the counts are still returned. A wire that tells nothing
+/// ends once no datagram has come for `idle` seconds; with 0 it never does.
 pub fn record_wire<N: Wire, O: Sink>(
     alloc: Global,
     packets: u32,

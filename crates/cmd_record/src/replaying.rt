@@ -9,10 +9,10 @@ use link_report::{Answer, Ending};
 use std::alloc::Global;
 use vc_ports::{Pace, Reached, Source, Wire};
 
-/// Sends the datagrams of a capture's entries to an address, each as it is, at most so many: aims the wire,
-/// and then reads entries one after another, and sends the datagram of each before the next is read. It stops
-/// at an entry of more than 65,507 bytes, which no datagram can have. Where the wire can't be aimed, nothing
-/// is read. The pace has a datagram wait for the moment of its RTP timestamp, if it has one.
+/// Sends the datagrams of a capture's entries to an address, each as it is, at most `packets` of them: aims
+/// the wire, then reads entries one after another, and sends the datagram of each before the next is read. It
+/// stops at an entry of more than 65,507 bytes, which no datagram can have. If the wire can't be aimed,
+/// nothing is read. The pace has a datagram wait for the moment of its RTP timestamp, if it has one.
 pub fn replay_capture<S: Source, N: Wire, P: Pace>(
     alloc: Global,
     packets: u32,

@@ -12,11 +12,11 @@ use link_report::{Ending, Summary};
 use std::alloc::Global;
 use vc_ports::{Sink, Source};
 
-/// Reports on the source of the datagrams of a capture or a pcap file: reads at most so many entries, or
+/// Reports on the source of the datagrams of a capture or a pcap file: reads at most `packets` entries, or
 /// records, and writes the entries of compound packets of RTCP (RFC 3550, 6.1), each a receiver report
-/// (6.4.2) or, where the source itself reports, a sender report (6.4.1), and a source description (6.5).
-/// There is one behind each so many packets of the source, and one at the end, where packets have come
-/// since. Where the input fails, or isn't read to its end, the last report is written all the same.
+/// (6.4.2) or, if the source itself reports, a sender report (6.4.1), with a source description (6.5). A
+/// report follows every `settings.every` packets of the source, and one comes at the end if packets have come
+/// since. If the input fails, or isn't read to its end, the last report is still written.
 pub fn rtcp<S: Source, O: Sink>(
     alloc: Global,
     settings: &ReportSettings,
@@ -37,9 +37,9 @@ pub fn rtcp<S: Source, O: Sink>(
     }
 }
 
-/// Shows the compound packets of RTCP in a capture or a pcap file as text: reads at most so many entries, or
-/// records, and writes for each datagram a line of its report and one for each block of it, or the number of
-/// its refusal.
+/// Shows the compound packets of RTCP in a capture or a pcap file as text: reads at most `packets` entries,
+/// or records, and writes for each datagram a line for its report and one for each of its blocks, or the
+/// number of its refusal.
 pub fn rtcp_show<S: Source, O: Sink>(
     alloc: Global,
     packets: u32,

@@ -11,9 +11,9 @@ use link_report::Ending;
 use std::alloc::Global;
 use vc_ports::{Sink, Source};
 
-/// Has a scribe hear the datagrams of an input, of at most so many entries or records, and writes what it
-/// says; answers how many there were. Where the input fails, or isn't read to its end, what is due of those
-/// that were heard is written all the same.
+/// Passes the datagrams of an input, of at most `packets` entries or records, to a scribe, and writes the
+/// text that it provides; returns the number of datagrams. If the input fails, or isn't read to its end, the
+/// text due for those that were read is still written.
 pub(crate) fn take_input<I: Source, O: Sink, S: Scribe>(
     alloc: Global,
     form: InputForm,

@@ -10,10 +10,10 @@ use std::thread::Threads;
 use vc_ports::{NoPace, Sink, Source};
 use vc_types::SendSettings;
 
-/// Encodes at most so many raw frames: reads them one after another, up to one that is refused or the end
-/// of the input, and writes the entries of the datagrams that carry each, and at the end of the input that
-/// of the end of the sequence. Raw frames and captures are this project's own. So many threads, at most 64,
-/// encode each frame.
+/// Encodes at most `frames` raw frames: reads them one after another, up to one that is refused or the end of
+/// the input, writes the entries of the datagrams that carry each, and at the end of the input that of the
+/// end of the sequence. Raw frames and captures are this project's own. `workers` threads, at most 64, encode
+/// each frame.
 pub fn encode<H: Threads + Copy + Send + Sync, S: Source, O: Sink>(
     rt: H,
     workers: u32,

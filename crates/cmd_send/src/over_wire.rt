@@ -14,11 +14,11 @@ use std::thread::Threads;
 use vc_ports::{Pace, Reached, Source, Wire};
 use vc_types::SendSettings;
 
-/// Sends at most so many raw frames to an address: aims the wire, and then reads frames one after another,
-/// up to one that is refused or the end of the input, and sends the datagrams that carry each, and at the
-/// end of the input that of the end of the sequence (RFC 8450). Raw frames are this project's own. Where
-/// the wire can't be aimed, nothing is read. So many threads, at most 64, encode each frame. The pace has a
-/// datagram wait for its turn.
+/// Sends at most `frames` raw frames to an address: aims the wire, then reads frames one after another, up to
+/// one that is refused or the end of the input, sends the datagrams that carry each, and at the end of the
+/// input that of the end of the sequence (RFC 8450). Raw frames are this project's own. If the wire can't be
+/// aimed, nothing is read. `workers` threads, at most 64, encode each frame. The pace has a datagram wait for
+/// its turn.
 pub fn send<H: Threads + Copy + Send + Sync, S: Source, N: Wire, P: Pace>(
     rt: H,
     workers: u32,

@@ -23,11 +23,12 @@ use std::thread::Threads;
 use vc_ports::{Filled, Pace, Source, fill};
 use vc_types::{IndexChoice, SendSettings, Shape, SliceNeed};
 
-/// Sends at most so many raw frames: reads them one after another, up to one that is refused or the end of
-/// the input, and puts the datagrams that carry each, and at the end of the input that of the end of the
-/// sequence. Raw frames are this project's own. The datagrams of a frame go out before the next is read,
-/// one frame and its datagrams are kept, and so many threads, at most 64, encode each frame, which no clause
-/// says. Fewer than two threads do all in turn. The pace has a datagram wait for its turn.
+/// Sends at most `frames` raw frames: reads them one after another, up to one that is refused or the end of
+/// the input, puts the datagrams that carry each into the outlet, and at the end of the input that of the end
+/// of the sequence. Raw frames are this project's own. A frame's datagrams go out before the next frame is
+/// read, when the pace lets them; one frame and its datagrams are kept, and `workers` threads, at most 64,
+/// encode each frame: none of this is part of the contract. With fewer than two threads everything is done in
+/// turn.
 pub fn send_frames<H: Threads + Copy + Send + Sync, S: Source, O: Outlet, P: Pace>(
     rt: H,
     workers: u32,

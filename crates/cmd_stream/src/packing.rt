@@ -27,10 +27,10 @@ pub(crate) enum Stop {
     AtLimit,
 }
 
-/// Packs an elementary stream into a capture: reads at most so many data units, up to an end of sequence, a
-/// unit that isn't packed or the end of the input, and writes the entries of the datagrams that carry its
-/// pictures in their own bytes, and of an end of sequence behind the last (RFC 8450, 4; captures are this
-/// project's own). One unit and its datagrams are kept, which no clause says.
+/// Packs an elementary stream into a capture: reads at most `packets` data units, up to an end of sequence, a
+/// unit that is refused or the end of the input, and writes the entries of the datagrams that carry its
+/// pictures in their own bytes, and of an end of sequence after the last (RFC 8450, 4; captures are this
+/// project's own). Only one unit and its datagrams are kept; this is not part of the contract.
 pub fn pack<S: Source, O: Sink>(
     alloc: Global,
     packets: u32,

@@ -28,11 +28,11 @@ pub(crate) enum Stop {
     AtLimit,
 }
 
-/// Plays an elementary stream, of high quality or of low delay: reads at most so many data units, up to an
+/// Plays an elementary stream, of high quality or of low delay: reads at most `packets` data units, up to an
 /// end of sequence, a unit that is refused or the end of the input, and writes the raw frames that its
-/// pictures make (ST 2042-1, sequence; raw frames are this project's own). Luma is transformed beside the
-/// colours, by join. A frame goes out as soon as it stands, and one unit, one picture and at most one earlier
-/// field are kept, which no clause says.
+/// pictures make (ST 2042-1, sequence; raw frames are this project's own). A frame is written as soon as it
+/// is complete. Four threads share the transform of a picture, and only one unit, one picture and at most one
+/// earlier field are kept; this is not part of the contract.
 pub fn play<H: Threads + Copy + Send + Sync, S: Source, O: Sink>(
     rt: H,
     alloc: Global,

@@ -1,6 +1,6 @@
-//! What the choice of quantisation indices promises: what was sent at index 0 is received as it was sent, and
-//! a picture keeps to its budget where each of its slices can.
-//! There are definitions and laws here, and no algorithm.
+//! Laws on the choice of quantisation indices: what is sent at index 0 is received as it was sent, and a
+//! picture keeps to its budget if each of its slices can. There are definitions and laws here, and no
+//! algorithm.
 #![tactic(auto)]
 
 mod laws;

@@ -1,6 +1,6 @@
-//! Laws over several commands: what `encode` writes at quantisation index 0 `decode` writes back, and
-//! `loop` what it reads; the elementary stream that `unpack` writes `play` writes as its frames. There are
-//! definitions and laws here, and no algorithm.
+//! Laws over several commands: `decode` writes back what `encode` read at quantisation index 0, and `loop`
+//! writes what it reads; `play` writes the elementary stream of `unpack` as its frames. There are definitions
+//! and laws here, and no algorithm.
 #![tactic(auto)]
 
 mod link_laws;

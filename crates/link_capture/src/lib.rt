@@ -1,4 +1,4 @@
-//! Captures: lists of datagrams as bytes, each behind its length in 2 bytes, read and written entry by entry.
+//! Captures: lists of datagrams as bytes, each after its length in 2 bytes, read and written entry by entry.
 #![tactic(auto)]
 
 mod fault;

@@ -10,7 +10,7 @@ use crate::shape::frame_shape;
 use std::alloc::Global;
 use vc_types::{GenSettings, NoMemory, Plane, Shape};
 
-/// The frame behind a state, which is the seed for the first frame, and the state behind that frame.
+/// The frame that is generated from a state, which is the seed for the first frame, and the state after it.
 pub fn gen_frame(alloc: Global, s: &GenSettings, state: u64) -> Result<([Plane; 3], u64), NoMemory>
     ensures frame { IfOk result (λ made. planes_in made.0
         ≡ generated_frame (shape_of_frames (generating_view s.now).frames) state) }

@@ -10,7 +10,7 @@ use link_report::Ending;
 use std::alloc::Global;
 use vc_ports::{Filled, Source, fill};
 
-/// Has a listener hear the datagrams of an inlet, at most so many, until it has heard enough.
+/// Passes the datagrams of an inlet to a listener, at most `packets` of them, until it needs no more.
 pub fn hear_all<I: Inlet, L: Listener>(
     packets: u32,
     inlet: &mut I,
@@ -42,8 +42,8 @@ pub fn hear_all<I: Inlet, L: Listener>(
     }
 }
 
-/// Has a listener hear the datagrams of a capture's entries, at most so many, until it has heard
-/// enough, and reads one byte more where there were as many.
+/// Passes the datagrams of a capture's entries to a listener, at most `packets` of them, until it needs no
+/// more, and reads one more byte if there were that many.
 pub(crate) fn hear_capture<S: Source, L: Listener>(
     alloc: Global,
     packets: u32,

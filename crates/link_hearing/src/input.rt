@@ -12,8 +12,8 @@ use pcap_in::{CarriedFeed, PcapReader};
 use std::alloc::Global;
 use vc_ports::Source;
 
-/// Has a listener hear the datagrams of an input: of at most so many entries of a capture, or records of a
-/// pcap file, until it has heard enough. Where there were as many, one byte more is read.
+/// Passes the datagrams of an input to a listener, of at most `packets` entries of a capture, or records of a
+/// pcap file, until it needs no more. If there were that many, one more byte is read.
 pub fn hear_input<S: Source, L: Listener>(
     alloc: Global,
     form: InputForm,

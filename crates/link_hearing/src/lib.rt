@@ -1,4 +1,5 @@
-//! Datagrams heard one after another: what they come out of, what hears them, and the loop between the two.
+//! Datagrams received one after another: the inputs that they come from, the listeners that take them, and
+//! the loop between the two.
 #![tactic(auto)]
 
 mod capture_inlet;

@@ -90,8 +90,8 @@ pub fn pictures_leave_in_order()
         ≡ frames_so_far window s es ++ flat_map (frame_bytes_at s es) rest) }
 {}
 
-/// The book of a list of parts is with a part more the book of the longer list. It answers the
-/// part's outcome, has the slices that are kept, and the picture's whole bytes.
+/// Adding a part to the book for a list of parts gives the book for the longer list, and returns the outcome
+/// of that part. The book has the slices kept so far and, once the picture is complete, all of its bytes.
 #[tactic(auto, using(crate::proofs::Bookkeeping::laws))]
 pub fn books_stand_for_parts()
     ensures more { (s : Sequence) (parts : List Part) (part : Part)

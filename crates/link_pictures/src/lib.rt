@@ -1,6 +1,5 @@
-//! The pictures of a receiver, from the answers to their slices to what goes out of them once they are
-//! released: frames and, with field coding, frames that are woven of two fields, or the units of an
-//! elementary stream.
+//! The pictures of a receiver, from the answers for their slices to the bytes that are written once they are
+//! released: frames (with field coding, woven from two fields), or the units of an elementary stream.
 #![tactic(auto)]
 
 mod answers;

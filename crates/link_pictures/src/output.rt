@@ -54,12 +54,12 @@ impl FrameOutput {
         }
     }
 
-    /// Takes the planes of the picture that is released next, if it has any, and writes the frame of which
-    /// it is the last picture. Without field coding that is the picture. With it fields of even numbers
-    /// wait, and one of an odd number is woven with the field of the number before, if that waits. Planes
-    /// have the sizes and depths of the sequence's pictures. Without memory nothing goes out, and after a
-    /// fault of the sink a prefix of the frame went out; whatever the answer, what waited before waits no
-    /// longer.
+    /// Takes the planes of the picture that is released next, if it has any, and writes the frame of which it
+    /// is the last picture. Without field coding, that is the picture itself. With field coding, a field with
+    /// an even number waits, and one with an odd number is woven with the field of the number before it, if
+    /// that one waits. Planes have the sizes and depths of the sequence's pictures. If memory runs out,
+    /// nothing is written; if the sink fails, a prefix of the frame has been written. In every case, a field
+    /// that was waiting before the call no longer waits.
     pub fn release<O: Sink>(
         &mut self,
         header: &Header,

@@ -6,8 +6,8 @@ use vc_ports::{Pace, Sink, Source, Wire};
 use vc_slice::Hands;
 use vc_types::Words;
 
-/// Prints the page that the words ask for, and where they ask for none does what `link_main` does. Answers
-/// the status.
+/// Prints the page that the arguments ask for; if they ask for none, does what `link_main` does. Returns the
+/// status.
 pub fn run_words<
     H: Threads + Copy + Send + Sync,
     S: Source,

@@ -56,8 +56,8 @@ impl Model for Receiver {
 }
 
 impl Receiver {
-    /// A receiver that heard nothing, with so many pictures open at a time, from 2 to 8. It writes
-    /// raw frames.
+    /// A receiver that has received nothing, with up to `size` pictures open at a time, from 2 to 8. It
+    /// writes raw frames.
     pub fn new(alloc: Global, size: u8) -> Receiver
         requires least { 2 ≤ size }
         requires most { size ≤ 8 }

@@ -17,14 +17,14 @@ const DONE: u8 = 0;
 
 const REPORT_FAULT: u8 = 7;
 
-/// What a command came to.
+/// The result of a command.
 #[derive(Clone, Copy)]
 pub enum Answer {
     /// It came to its end.
     Done(Summary),
     /// It stopped.
     Stopped(Ending),
-    /// It read no further, and judged and wrote all that it had heard.
+    /// It stopped early, but judged and wrote everything that it had received.
     Drained(Summary, Ending),
     /// Either of a pcap file, of which so many records were read; `other` of them carry no datagram. Without
     /// an ending it came to its end.

@@ -1,4 +1,4 @@
-//! What a command says at its end: its counts and the line of its status, to the byte.
+//! The report that a command writes at its end, to the byte: its counts, and the line for its status.
 #![tactic(auto)]
 
 mod answer;

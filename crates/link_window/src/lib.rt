@@ -1,5 +1,5 @@
-//! The session that stands and its window of open pictures: what a datagram is to it, which fragments are
-//! late, which slices one brings, and which picture may be released next.
+//! The current session and its window of open pictures: the role of each datagram in it, which fragments are
+//! late, which slices a fragment brings, and which picture may be released next.
 #![tactic(auto)]
 
 mod books;

@@ -60,8 +60,8 @@ pub struct Entered {
 }
 
 impl Standing {
-    /// A session that a datagram opens, behind sessions whose greatest number is this. So many
-    /// pictures may be open at a time, from 2 to 8.
+    /// The session that a datagram opens, after sessions whose highest number is this. Up to `size` pictures
+    /// may be open at a time, from 2 to 8.
     pub fn new(alloc: Global, opening: Opening, size: u8, greatest: u64) -> Standing
         requires least { 2 ≤ size }
         requires most { size ≤ 8 }

@@ -22,7 +22,7 @@ const FILES: [&str; 10] = [
     "Files",
     "  raw frames: the planes Y, C1 and C2 of each frame, row by row; a sample has one byte where it has",
     "    8 bits, and else two, the lowest first (ffmpeg: yuv422p10le with --sampling 422 --range 3)",
-    "  capture: the datagrams one after another, each behind its length in two bytes, the highest first",
+    "  capture: the datagrams one after another, each after its length in two bytes, the higher first",
     "  pcap: a file of libpcap, of Ethernet frames or Linux cooked packets; pcapng is converted by",
     "    editcap -F pcap or tshark -F pcap",
     "  elementary stream: the data units of ST 2042-1, section 10",
@@ -33,8 +33,8 @@ const FILES: [&str; 10] = [
 const STATUSES: [&str; 16] = [
     "",
     "Statuses",
-    "  0   it came to its end",
-    "  2   the words can't be understood from the word on that the report names, counted from 0",
+    "  0   the command completed",
+    "  2   the argument that the report names, counted from 0, isn't valid",
     "  3   memory ran out",
     "  4   a read of the input failed",
     "  5   a write to the output failed",
@@ -45,7 +45,7 @@ const STATUSES: [&str; 16] = [
     "  10  the raw frames end within a frame",
     "  11  a sample has more bits than its --range",
     "  12  a slice is too large for its lengths or for a datagram: try --fit, --scaler or --size",
-    "  13  the stream is damaged or of another profile, the pcap file is none, or an entry is too long to be sent",
+    "  13  the stream is damaged or of another profile, the file isn't a pcap file, or an entry is too long to be sent",
     "  14  there are more frames than --frames allows",
 ];
 

@@ -74,14 +74,14 @@ pub(crate) const NAMES: [(Name, &str); 40] = [
     (Name::Depth, "levels of the transform"),
     (Name::Slices, "slices across and down a picture"),
     (Name::Prefix, "bytes in front of each slice"),
-    (Name::Scaler, "a slice's lengths count so many bytes"),
+    (Name::Scaler, "the unit of a slice's lengths, in bytes"),
     (
         Name::Index,
         "the quantisation index of all slices; 0 loses nothing",
     ),
     (
         Name::Fit,
-        "the least index at which a slice has so many bytes at most, else 127; not with --index",
+        "the lowest index at which a slice has at most this many bytes, else 127; not with --index",
     ),
     (
         Name::Budget,
@@ -115,7 +115,7 @@ pub(crate) const NAMES: [(Name, &str); 40] = [
     (Name::At, "where datagrams come, as 0.0.0.0:5004"),
     (
         Name::Window,
-        "how many pictures are open at a time; more lets later datagrams count and delays the frames",
+        "how many pictures are open at a time; more tolerates later datagrams, and delays the frames",
     ),
     (
         Name::Workers,
@@ -133,7 +133,7 @@ pub(crate) const NAMES: [(Name, &str); 40] = [
         Name::Port,
         "with --pcap 1: the port to which datagrams go; 0: all ports",
     ),
-    (Name::Sessions, "how many ends of sequence are waited for"),
+    (Name::Sessions, "how many ends of a sequence to wait for"),
     (
         Name::Idle,
         "seconds without a datagram of use, after which it ends; 0: it waits for ever",

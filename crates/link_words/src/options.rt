@@ -73,7 +73,7 @@ pub(crate) enum Name {
     Ntp,
 }
 
-/// Which words may stand behind a name.
+/// Which values an option takes.
 #[derive(Clone, Copy)]
 pub(crate) enum Values {
     // A number: the least, the greatest, and the one that is meant where none is given.

@@ -114,8 +114,8 @@ fn lacks_name(command: Command, words: &Words) -> bool
     names_of(command).iter().any(|name| lacks(words, *name))
 }
 
-/// Reads the words behind the program's name: a command, and then pairs of a name and a value in any order.
-/// An option that is not given has its default.
+/// Reads the arguments after the program's name: a command, and then pairs of a name and a value in any
+/// order. An option that is not given has its default.
 #[tactic(auto, unfolding(crate::specs::Settings::settings_of))]
 pub fn read_words<'a>(words: &'a Words) -> Result<Settings<'a>, Usage>
     ensures exact { settings_of words.now

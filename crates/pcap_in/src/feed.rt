@@ -33,8 +33,8 @@ enum Step {
     End,
 }
 
-/// Which payloads are taken of the records of a pcap file: those to a port, where port 0 stands for all, of
-/// at most so many records. Those that carry none are passed over, and both are counted.
+/// Which payloads are taken from the records of a pcap file: those to a port, where port 0 means any, from at
+/// most so many records. Records that carry none are skipped, and both are counted.
 #[derive(Drop)]
 pub struct CarriedFeed {
     port: u16,

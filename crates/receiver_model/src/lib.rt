@@ -1,5 +1,5 @@
-//! The link's receiver: what it has, what it stands for, and that it goes on standing for it. There
-//! are definitions and laws here, and no algorithm.
+//! The state of the link's receiver, the list of datagrams that it represents, and the laws that each step
+//! keeps to this. There are definitions and laws here, and no algorithm.
 #![tactic(auto)]
 
 mod laws;

@@ -140,7 +140,7 @@ Arrive greatest [] = Unit {0}
 Arrive greatest (number ∷ numbers) =
     (greatest < number + 100) × (number < greatest + 3000) × Arrive (max greatest number) numbers
 
--- of 65,536 one after another a packet has the remainder
+-- a packet has the number's remainder modulo 65,536
 abbrev pub tracked_on : Tracked → List ℕ → Tracked
 tracked_on t numbers = fold (λ t number. (updated t (number % 65536)).0) t numbers
 

@@ -5,10 +5,11 @@ ghost use Rattle.rtcp_reports.specs.Tracks.{Arrive, tracked_from, greatest_of, b
 ghost use Rattle.rtcp_reports.specs.declared.block.Block.{Block};
 ghost use Rattle.rtcp_reports.specs.declared.block.SenderInfo.{SenderInfo};
 
-/// What a report says is true of what came: of packets whose numbers have no bounds, the first two in
-/// sequence, and each later one less than 100 below or 3,000 above the greatest before it, the highest number
-/// is the greatest one, counted from the second packet's own 16 bits, and the loss is what is missing from
-/// the second packet on, where a packet that comes twice counts twice.
+/// A report counts a source's packets across the wrapping of their 16-bit numbers. If the first two come in
+/// sequence, and each later one is less than 100 below or 3,000 above the highest before it, then the
+/// report's highest number is that of the packets, counted from the second packet's own 16 bits, and its loss
+/// is the packets expected from the second one on minus those received, where a packet that comes twice
+/// counts twice.
 pub fn tracks_count_what_came()
     ensures probation { (first : ℕ) (numbers : List ℕ) → Arrive (first + 1) numbers
         → (tracked_from first ((first + 1) ∷ numbers)).probation ≡ 0 }

@@ -2,8 +2,8 @@ ghost use Rattle.std.specs.Prelude.{◌≡◌, ◌++◌, ℕ, List};
 ghost use Rattle.link_model.specs.Output.{IsPrefixOf};
 ghost use Rattle.stream_model.specs.Streams.{stream_of, stream_so_far};
 
-/// What there is of a stream begins what there is of that of any longer list of datagrams, and that
-/// whole stream.
+/// The stream so far is a prefix of the stream so far for any longer list of datagrams, and of the complete
+/// stream.
 #[tactic(auto, using(crate::proofs::Growing::laws))]
 pub fn streams_only_grow()
     ensures so_far { (window : ℕ) (datagrams more : List (List ℕ)) → IsPrefixOf

@@ -77,7 +77,7 @@ fn fragment(bytes: &[u8]) -> Option<Payload<'_>>
     }
 }
 
-/// Reads a payload (RFC 8450, 4). Bytes behind a fragment's body and behind code 10 are ignored, and so are
+/// Reads a payload (RFC 8450, 4). Bytes after a fragment's body and after code 10 are ignored, and so are
 /// the contents of codes 20 and 30.
 #[tactic(auto, unfolding(link_model::specs::Packets::payload))]
 pub fn read_payload(bytes: &[u8]) -> Result<Payload<'_>, PayloadRefusal>

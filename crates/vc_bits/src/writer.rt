@@ -87,7 +87,8 @@ impl BitWriter {
         Ok(())
     }
 
-    /// Adds the same bit so many times. Where memory runs out, it isn't said how many of them were added.
+    /// Adds the same bit `times` times. If memory runs out, the number of bits that were added is
+    /// unspecified.
     pub fn repeat(&mut self, bit: bool, times: u64) -> Result<(), NoMemory>
         ensures { OnOk result (self.new ≡ self.old ++ replicate times bit) }
     {

@@ -1,4 +1,4 @@
-//! Where coefficients stand: padded planes, subbands, slices and the places of a slice's coefficients.
+//! The places of coefficients: padded planes, subbands, slices, and the places of a slice's coefficients.
 #![tactic(auto)]
 
 mod laws;

@@ -14,9 +14,9 @@ const MOST: u64 = (1 << 30) - 1;
 // None in a row of the table has a greater magnitude.
 const MOST_OF_ROW: u32 = 128;
 
-/// Reads the next numbers of a block, so many, to the front of `out`, which has room for eight more: a bound
-/// of their magnitudes, or TooLarge where one of them has a magnitude of 2^30 or more. What is behind the
-/// numbers in `out` isn't said: many are read at once.
+/// Reads the next `count` numbers of a block into the front of `out`, which must have room for eight more.
+/// Returns a bound on their magnitudes, or `TooLarge` if any magnitude is 2^30 or more. The contents of `out`
+/// after those numbers are unspecified, because several numbers are read at once.
 pub fn read_sints(block: &Block, count: usize, out: &mut [i32]) -> Result<u32, TooLarge>
     requires room { count + 8 ≤ length out.old }
     ensures numbers { OnOk result ((i : ℕ) → i < count

@@ -1,5 +1,6 @@
-//! The outside: where bytes come from and where they go. A source and a sink tell their bytes where they can,
-//! and count their faults, so that a caller's contract can say what was read and written, and why it stopped.
+//! The outside: where bytes come from and where they go. A source and a sink expose their bytes if they can,
+//! and count their faults, so that a caller's contract can state what was read and written, and why it
+//! stopped.
 #![tactic(auto)]
 
 mod datagrams;

@@ -2,7 +2,7 @@ ghost use Rattle.std.specs.Prelude.{◌≡◌, ◌≤◌, ℕ, IsTrue, length};
 ghost use Rattle.vc_ports.specs.Faults.{HasCause};
 ghost use Rattle.vc_ports.specs.Wires.{WireTold, Reaches, Sends, Comes, listening, aiming};
 
-/// What a call that gives nothing back came to.
+/// The result of a call that returns no data.
 #[derive(Clone, Copy)]
 pub enum Reached {
     Yes,

@@ -5,9 +5,8 @@ ghost use Rattle.vc_quant.specs.Reciprocal.{IsReciprocal};
 use crate::factors::FACTORS;
 use crate::quotient::quotient;
 
-/// The last index from 0 to 127 at which this encoder quantises a magnitude to a number that has more than so
-/// many binary digits where 1 is added to it: one digit or more, and fewer than the magnitude has where 1 is
-/// added.
+/// The highest quantisation index (0 to 127) at which `magnitude` quantises to some n with n + 1 >=
+/// 2^`digits`.
 #[inline]
 pub fn last_index_with(digits: u32, magnitude: u64) -> u8
     requires digits { (1 ≤ digits) × (2 ^ digits ≤ magnitude + 1) }

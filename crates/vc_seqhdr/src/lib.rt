@@ -1,4 +1,4 @@
-//! Sequence headers: what a stream says of its pictures before the first of them (ST 2042-1, sequence
+//! Sequence headers: what a stream states about its pictures before the first of them (ST 2042-1, sequence
 //! header).
 #![tactic(auto)]
 

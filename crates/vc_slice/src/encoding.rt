@@ -19,7 +19,7 @@ use vc_types::{Component, NoMemory, Plan};
 /// Why a slice isn't encoded.
 #[derive(Clone, Copy, Debug, PartialEq, Eq)]
 pub enum EncodeRefusal {
-    /// A block is longer than 255 times the slice size scaler. The whole slice would have so many bytes.
+    /// A block is longer than 255 times the slice size scaler. The whole slice would have this many bytes.
     TooLong { bytes: u64 },
     NoMemory,
 }

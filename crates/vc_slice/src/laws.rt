@@ -9,10 +9,10 @@ ghost use Rattle.vc_types.specs.Slices.{Coefficients};
 ghost use Rattle.vc_types.specs.Subbands.{slice_count};
 ghost use Rattle.vc_types.specs.TransformParameters.{Parameters};
 
-/// A picture's slices can be decoded apart, in any order: where its coded transform parameters are followed
-/// by as many whole slices as it has, and by anything, it is put together from the answers of the slices.
-/// Where every answer is sound, it is these parameters and the slices' coefficients in raster order; where
-/// one isn't, there is no picture.
+/// A picture's slices can be decoded independently, in any order. If its coded transform parameters are
+/// followed by the right number of whole slices (and then by anything), the picture is put together from the
+/// results for the slices: if all are sound, it is these parameters and the slices' coefficients in raster
+/// order; if one isn't, there is no picture.
 pub fn slices_decode_apart()
     ensures sound { (s : Sequence) (p : Parameters) (coded : List ℕ) (slices : List (List ℕ))
         (behind : List ℕ) (answer : ℕ → Result Coefficients Unsound)

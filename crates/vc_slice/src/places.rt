@@ -45,7 +45,7 @@ pub trait Hands: Places {
     /// No workers were started.
     ghost is_free: { Self → Type 0 };
 
-    /// Starts so many workers. After NoMemory none runs.
+    /// Starts `workers` workers. After NoMemory none runs.
     fn start_workers(&mut self, workers: u32) -> Result<(), NoMemory>
         requires free { is_free self.old }
         ensures told { Grows (Self.told self.old) (Self.told self.new) (starting workers result) }

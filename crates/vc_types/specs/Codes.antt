@@ -25,7 +25,7 @@ sint_bits v = uint_bits (unsigned_abs v) ++ sign_bits v
 
 -- ---- reading
 
--- the number whose code begins the bits, and the bits behind it, where the digits of a number were
+-- the number whose code begins the bits, and the bits after it, where the digits of a number were
 -- read
 unfoldable pub uint_after : ℕ → List Bool → Option (ℕ × List Bool)
 uint_after number [] = None
@@ -33,7 +33,7 @@ uint_after number (true ∷ rest) = Some (number - 1, rest)
 uint_after number (false ∷ []) = None
 uint_after number (false ∷ bit ∷ rest) = uint_after (2 * number + digit_of bit) rest
 
--- the number whose code begins the bits, and the bits behind it
+-- the number whose code begins the bits, and the bits after it
 unfoldable pub uint_at : List Bool → Option (ℕ × List Bool)
 uint_at bits = uint_after 1 bits
 

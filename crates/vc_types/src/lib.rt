@@ -1,4 +1,5 @@
-//! The words that every other crate shares: the values of VC-2, and in specs/ what the standard says of them.
+//! The terms that every other crate shares: the values of VC-2, and in specs/ the standard's definitions of
+//! them.
 #![tactic(auto)]
 
 mod choice;

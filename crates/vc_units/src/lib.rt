@@ -1,5 +1,4 @@
-//! Elementary streams: data units, each behind a parse info header of 13 bytes, read and written unit by
-//! unit.
+//! Elementary streams: data units, each after a parse info header of 13 bytes, read and written unit by unit.
 #![tactic(auto)]
 
 mod fault;

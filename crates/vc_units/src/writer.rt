@@ -6,7 +6,7 @@ use crate::info::{PARSE_INFO_BYTES, PARSE_INFO_PREFIX};
 use byteorder::{BigEndian, ByteOrder};
 use vc_types::{END_OF_SEQUENCE, NoMemory};
 
-/// Appends a data unit (ST 2042-1, data unit) behind a unit of `previous` bytes, 0 for the first. The code is
+/// Appends a data unit (ST 2042-1, data unit) after a unit of `previous` bytes, 0 for the first. The code is
 /// one that `next_unit` accepts. The distance to the next unit is the unit's own length, its low 32 bits, and
 /// 0 in an end of sequence, which has no body. Where memory runs out, nothing is appended.
 #[tactic(auto, unfolding(vc_types::specs::DataUnits::unit_bytes))]

@@ -1,4 +1,4 @@
-//! Tries the libraries' calls on worked rows, which are text, and says which came to something else.
+//! Makes the libraries' calls on worked rows, which are text, and prints the rows whose results differ.
 #![tactic(auto)]
 
 mod bits;

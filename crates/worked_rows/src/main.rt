@@ -1,4 +1,4 @@
-//! Runs the program on worked rows, which are text, and says which came to something else.
+//! Runs the program on worked rows, which are text, and prints the rows whose results differ.
 #![tactic(auto)]
 
 mod bench;

@@ -1,5 +1,5 @@
-//! The tests that need threads, a socket, or an object of their own. All else that is worked out by hand is
-//! rows: those of `worked_rows`.
+//! The tests that need threads, a socket, or an object of their own. Everything else that is worked out by
+//! hand is in the rows of `worked_rows`.
 #![tactic(auto)]
 
 #[cfg(test)]
