@@ -10,14 +10,12 @@ use Rattle.vc_types.specs.Wavelets.{is_shifted, synthesised}
 use Rattle.vc_lift.specs.Reach.{HoldsPairs, reach_back, reach_ahead}
 use Rattle.vc_lift.proofs.LineWindows.{synthesis_in_part}
 use Rattle.vc_wave.specs.declared.pass.Direction.TheVariants.{Synthesis}
-use Rattle.vc_wave.specs.NarrowBounds.{CarriesTo, rows_bound}
 use Rattle.vc_wave.specs.Parts.{with_low}
 use Rattle.vc_wave.specs.Planes.{plane_of}
 use Rattle.vc_wave.specs.Remade.{half_place, halves_together, merged, remade}
-use Rattle.vc_wave.proofs.CarriedBounds.{rows_carry}
 use Rattle.vc_wave.proofs.LowCells.{with_low_in, with_low_out}
 use Rattle.vc_wave.proofs.PlaneLines.{column_in, row_in, rearranged_in}
-use Rattle.vc_wave.proofs.PlaneSteps.{plane_in, plane_small}
+use Rattle.vc_wave.proofs.PlaneSteps.{plane_in}
 use Rattle.vc_wave.proofs.Weaving.{remade_pass, remade_merged, inverse_level_remade}
 
 -- ---- which pairs
@@ -79,6 +77,27 @@ module _ (w h pitch pair at : ℕ) (low nested old one two three : List ℤ) (in
   pair_off i (inr a) =
       third_off i (inr (omega arith)) ∙ second_off i (inr (omega arith)) ∙ first_off i (inr (omega arith))
 
+-- a bound on its cells
+module _ (w h pitch pair most : ℕ) (low nested : List ℤ) (inside : pair < h) (wide : 2 * w ≤ pitch) where
+  module _ (first : (x : ℕ) → x < w → unsigned_abs (line_of low (pair * w + x)) ≤ most)
+      (second : (x : ℕ) → x < w → unsigned_abs (line_of nested (pair * pitch + w + x)) ≤ most) where
+    small_at : (x : ℕ) → x < 2 * w → (x < w) ⊎ (w ≤ x) → unsigned_abs (with_low w h pitch low nested x pair) ≤ most
+    small_at x lt (inl a) =
+        rw (with_low_in w h pitch low nested x pair a inside ∙ plane_in w low x pair a) (first x a)
+    small_at x lt (inr b) =
+        let there : pair * pitch + x ≡ pair * pitch + w + (x - w) = omega arith in
+        rw (with_low_out w h pitch low nested x pair (inl b) ∙ plane_in pitch nested x pair (omega arith)
+        ∙ ap (line_of nested) there) (second (x - w) (omega arith))
+
+    pub low_small : (x : ℕ) → x < 2 * w → unsigned_abs (with_low w h pitch low nested x pair) ≤ most
+    low_small x lt = small_at x lt (cases_lt x w)
+
+  pub high_small : ((x : ℕ) → x < 2 * w → unsigned_abs (line_of nested ((h + pair) * pitch + x)) ≤ most)
+      → (x : ℕ) → x < 2 * w → unsigned_abs (with_low w h pitch low nested x (h + pair)) ≤ most
+  high_small third x lt =
+      rw (with_low_out w h pitch low nested x (h + pair) (inr (omega arith))
+      ∙ plane_in pitch nested x (h + pair) (omega arith)) (third x lt)
+
 half_even : (half j : ℕ) → half_place half (2 * j) ≡ j
 half_even half j = (let even : 2 * j % 2 ≡ 0 = omega arith in rw even (omega arith))
 
@@ -109,6 +128,26 @@ module _ (w h n first : ℕ) (cells : Cells) (old new : List ℤ)
           let earlier : k < 2 * n = omega arith in
           let above = mul-add-lt k (2 * w) x (2 * n) earlier a in
           off (k * (2 * w) + x) (inl (omega (arith, above))) ∙ before x k a earlier)
+    ]
+  ]
+
+-- and one on all of them
+module _ (w h n first most : ℕ) (cells : Cells)
+    (low : (x : ℕ) → x < 2 * w → unsigned_abs (cells x (first + n)) ≤ most)
+    (high : (x : ℕ) → x < 2 * w → unsigned_abs (cells x (h + (first + n))) ≤ most)
+    (before : (x k : ℕ) → x < 2 * w → k < 2 * n → unsigned_abs (cells x (half_place h (2 * first + k))) ≤ most) where
+  pub pair_small : (x k : ℕ) → x < 2 * w → k < 2 * (n + 1)
+      → unsigned_abs (cells x (half_place h (2 * first + k))) ≤ most
+  pair_small x k a lt = elim (cases_eq k (2 * n)) [
+    | inl e ↦ (
+        let place : 2 * (first + n) ≡ 2 * first + k = omega arith in
+        subst (λ j. unsigned_abs (cells x j) ≤ most) (sym (half_even h (first + n)) ∙ ap (half_place h) place) (low x a))
+    | inr ne ↦ elim (cases_eq k (2 * n + 1)) [
+      | inl e ↦ (
+          let place : 2 * (first + n) + 1 ≡ 2 * first + k = omega arith in
+          subst (λ j. unsigned_abs (cells x j) ≤ most) (sym (half_odd h (first + n)) ∙ ap (half_place h) place)
+          (high x a))
+      | inr other ↦ before x k a (omega arith)
     ]
   ]
 
@@ -162,14 +201,6 @@ module _ (vertical horizontal w h from to first pairs : ℕ) (cells : Cells) (mi
       (omega (arith, holds.ends, holds.inside, end))
       (λ k b. made k (2 * (from - first) + (y - 2 * from)) b (omega (arith, row, begin)) (omega (arith, row, end))
       ∙ ap (merged vertical h (λ j. cells k j)) row) x a
-
-  pub band_small : (after : ℕ) → 0 < w → CarriesTo (rows_bound horizontal) mid after → (x y : ℕ) → x < 2 * w
-      → 2 * from ≤ y → y < 2 * to → unsigned_abs (inverse_level vertical horizontal w h cells x y) ≤ after
-  band_small after some carried x y a begin end =
-      subst (λ z. unsigned_abs z ≤ after) (band_row x y a begin end)
-      (rows_carry horizontal carried.most after w some carried.fits
-      (λ k. plane_of (2 * w) mid k (2 * (from - first) + (y - 2 * from)))
-      (λ k. plane_small (2 * w) carried.most mid carried.small k (2 * (from - first) + (y - 2 * from))) x)
 
   -- in the list to which so many of them are put, below so many pairs
   pub band_put : {A : Type 0} (none : A) (g : ℤ → A) (columns count above : ℕ) (new : List A) → columns ≤ 2 * w

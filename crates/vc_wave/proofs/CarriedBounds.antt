@@ -352,3 +352,42 @@ pub bound_there : (carry : ℕ → Option ℕ) (levels most : ℕ) → is_some (
     → Reached carry levels most
 bound_there carry levels most fits =
     some_of (bound_over carry levels most) fits (λ n e. record { bound = n; is = e })
+
+-- a bound that is carried over a level
+pub record LevelReached (wavelet most : ℕ) : Type 0 where
+  pub after : ℕ
+  pub parts : LevelParted wavelet most after
+
+pub level_reached : (wavelet most : ℕ) → is_some (parted_level_bound wavelet most) ≡ true
+    → LevelReached wavelet most
+level_reached wavelet most fits =
+    some_of (parted_level_bound wavelet most) fits
+    (λ after is. record { after = after; parts = level_bounds wavelet most after is })
+
+-- a bound over levels is one over the first of them, which is carried over the others
+pub record FirstCarried (carry : ℕ → Option ℕ) (levels most : ℕ) : Type 0 where
+  pub first : ℕ
+  pub over : carry most ≡ Some first
+  pub last : ℕ
+  pub rest : bound_over carry (levels - 1) first ≡ Some last
+
+bound_after_first : (carry : ℕ → Option ℕ) (most first n : ℕ) → carry most ≡ Some first
+    → bound_over carry n first ≡ bound_over carry (suc n) most
+unfolding bound_over
+bound_after_first carry most first zero over = sym over
+bound_after_first carry most first (suc n) over =
+    ap (option_and_then carry) (bound_after_first carry most first n over)
+
+pub first_carried : (carry : ℕ → Option ℕ) (levels most : ℕ) → 1 ≤ levels
+    → is_some (bound_over carry levels most) ≡ true → FirstCarried carry levels most
+first_carried carry levels most some fits =
+    let all = bound_there carry levels most fits in
+    let one = reached_at carry levels (0 + 1) most all.bound (omega (arith, some)) all.is in
+    let over : carry most ≡ Some one.bound = sym (bound_next carry most 0 most (bound_start carry most)) ∙ one.is in
+    let whole : suc (levels - 1) ≡ levels = omega (arith, some) in
+    record {
+      first = one.bound;
+      over = over;
+      last = all.bound;
+      rest = bound_after_first carry most one.bound (levels - 1) over ∙ ap (λ n. bound_over carry n most) whole ∙ all.is;
+    }

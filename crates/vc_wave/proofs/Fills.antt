@@ -2,6 +2,7 @@
 use Rattle.std.proofs.Common.{◌≡◌, ℕ, suc, ◌+◌, ◌-◌, ◌*◌, ◌/◌, ◌%◌, ◌^◌, ◌<◌, ◌≤◌, List, length, set, ℤ, pos}
 use Rattle.std.proofs.Common.{◌-ℤ◌, unsigned_abs, All, IsTrue, arith, ap, sym, ◌∙◌, ◌⊎◌, inl, inr}
 use Rattle.std.proofs.Common.{slice_index_or, min}
+use mathlib.Core.Path.{fun_ext}
 use Rattle.std.proofs.lemmas.Bool.{cases_lt, cases_eq}
 use Rattle.std.specs.Prelude.{slice_range}
 use Rattle.std.proofs.lemmas.List.{get_or-set_same, get_or-set_other, get_or_past, get_or-take, get_or-drop}
@@ -12,7 +13,7 @@ use Rattle.std.proofs.lemmas.Int.{ints}
 use Rattle.std.proofs.Math.Nat.{mul-le-mul_right, pow-suc}
 use Rattle.std.proofs.Math.Pow.{pow_mono, pow_pos}
 use Rattle.vc_types.specs.declared.video.Component.{Component}
-use Rattle.vc_types.specs.Lifting.{line_of}
+use Rattle.vc_types.specs.Lifting.{Line, line_of}
 use Rattle.vc_types.specs.Rasters.{Raster, sample_at}
 use Rattle.vc_types.specs.Subbands.{plane_width, plane_height, plane_depth, padded_width, padded_height}
 use Rattle.vc_types.specs.TransformParameters.{Parameters, is_symmetric}
@@ -20,7 +21,7 @@ use Rattle.vc_types.specs.Transforms.{forward_levels, forward_transform, lowest_
 use Rattle.vc_types.specs.Transforms.{padded_plane}
 use Rattle.vc_wave.specs.Planes.{AreBelow, plane_of}
 use Rattle.vc_wave.proofs.TransformLocality.{forward_levels_agrees}
-use Rattle.vc_wave.specs.Samples.{padded_sample}
+use Rattle.vc_wave.specs.Samples.{centred_row, padded_sample}
 use Rattle.vc_wave.proofs.PlaneSteps.{plane_in, plane_small}
 use Rattle.vc_wave.proofs.TransformLaws.{no_levels, same_side}
 
@@ -61,6 +62,15 @@ pub row_read : (p : Raster) (samples : List ℕ) (w h x y row : ℕ) → samples
 row_read p samples w h x y row list wide high down some inside =
     grind (arith, length-take-le, length-drop, get_or-take, get_or-drop, sample_read)
 
+-- less half of the range
+pub row_centred : (p : Raster) (samples : List ℕ) (w h y row depth middle : ℕ) → samples ≡ p.samples → w ≡ p.width
+    → h ≡ p.height → row ≡ min y (h - 1) → 0 < w → row * w + w ≤ length samples → middle ≡ 2 ^ (depth - 1)
+    → ◌≡◌ {A = Line} (centred_row (slice_range samples (row * w) (row * w + w)) middle)
+    (λ x. padded_sample p depth x y)
+row_centred p samples w h y row depth middle list wide high down some inside half = fun_ext (λ x.
+    ap (λ n. pos n -ℤ pos middle) (row_read p samples w h x y row list wide high down some inside)
+    ∙ ap (λ n. pos (sample_at p (min x (p.width - 1)) (min y (p.height - 1))) -ℤ pos n) half)
+
 -- a row that is read lies in the plane
 pub row_inside : (p : Raster) (samples : List ℕ) (w h y row : ℕ) → length samples ≡ p.width * p.height
     → w ≡ p.width → h ≡ p.height → row ≡ min y (h - 1) → 1 ≤ p.height → row * w + w ≤ length samples
@@ -80,6 +90,19 @@ samples_below m p some small x y = elim (cases_lt (y * p.width + x) (length p.sa
   | inl h ↦ All-get_or (λ s. s < m) p.samples (y * p.width + x) 0 h small
   | inr h ↦ rw (get_or_past p.samples (y * p.width + x) 0 h) some
 ]
+
+pub padded_within : (plane : Raster) (depth : ℕ) → 1 ≤ depth → All (λ s. s < 2 ^ depth) plane.samples → (x y : ℕ)
+    → unsigned_abs (padded_sample plane depth x y) ≤ 2 ^ (depth - 1)
+padded_within plane depth some small x y =
+    centred_within _ depth some (samples_below (2 ^ depth) plane (pow_pos depth) small _ _)
+
+-- a component's samples
+pub same_sample : (plane : Raster) (depth : ℕ) (p : Parameters) (c : Component)
+    → plane.width ≡ plane_width p.shape c → plane.height ≡ plane_height p.shape c
+    → depth ≡ plane_depth p.shape c → (x y : ℕ)
+    → padded_sample plane depth x y ≡ padded_plane p c (sample_at plane) x y
+unfolding padded_plane
+same_sample plane depth p c own_width own_height own_depth x y = grind arith
 
 module _ (plane : Raster) (width height depth : ℕ) (first : List ℤ)
     (filled : (x y : ℕ) → x < width → y < height
@@ -101,7 +124,7 @@ module _ (plane : Raster) (width height depth : ℕ) (first : List ℤ)
           let row : i / width < height = row_within i inside (cases_lt (i / width) height) in
           let at : line_of first i ≡ padded_sample plane depth (i % width) (i / width) =
           ap (line_of first) (sym place) ∙ filled (i % width) (i / width) (omega arith) row in
-          rw at (centred_within _ depth some (samples_below (2 ^ depth) plane (pow_pos depth) small _ _)))
+          rw at (padded_within plane depth some small _ _))
     ]
 
     pub filled_below : depth ≤ 16 → AreBelow (2 ^ 16) (plane_of width first)
@@ -116,15 +139,12 @@ module _ (plane : Raster) (width height depth : ℕ) (first : List ℤ)
       (down : height ≡ padded_height p c)
       (own_width : plane.width ≡ plane_width p.shape c) (own_height : plane.height ≡ plane_height p.shape c)
       (own_depth : depth ≡ plane_depth p.shape c) where
-    same_sample : (x y : ℕ) → padded_sample plane depth x y ≡ padded_plane p c (sample_at plane) x y
-    unfolding padded_plane
-    same_sample x y = grind arith
-
     first_agrees : (x y : ℕ) → x < padded_width p c → y < padded_height p c
         → plane_of width first x y ≡ padded_plane p c (sample_at plane) x y
     first_agrees x y h lt =
         plane_in width first x y (omega (arith, across))
-        ∙ filled x y (omega (arith, across)) (omega (arith, down)) ∙ same_sample x y
+        ∙ filled x y (omega (arith, across)) (omega (arith, down))
+        ∙ same_sample plane depth p c own_width own_height own_depth x y
 
     -- of a symmetric transform, which has no levels across alone
     pub filled_levels : IsTrue (is_symmetric p) → (x y : ℕ) → x < padded_width p c → y < padded_height p c

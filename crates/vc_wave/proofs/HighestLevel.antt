@@ -1,14 +1,17 @@
 -- The highest level both ways: its sides, and what it makes of the subbands that are left below it.
-use Rattle.std.proofs.Common.{◌≡◌, ℕ, suc, ◌+◌, ◌-◌, ◌*◌, ◌^◌, ◌≤◌, arith, refl, ap, ◌∙◌}
-use Rattle.std.proofs.Math.Nat.{pow-suc}
+use Rattle.std.proofs.Common.{◌≡◌, ℕ, suc, ◌+◌, ◌-◌, ◌*◌, ◌/◌, ◌^◌, ◌≤◌, inl, inr, arith, refl, ap, subst, ◌∙◌}
+use Rattle.std.proofs.lemmas.Bool.{cases_lt}
+use Rattle.std.proofs.Math.Nat.{div-mul-le_self, mul-le-mul_right, pow-suc}
+use Rattle.std.proofs.Math.Pow.{pow_pos}
 use Rattle.vc_types.specs.declared.video.Component.{Component}
+use Rattle.vc_types.specs.Limits.{padded}
 use Rattle.vc_types.specs.Subbands.{levels, plane_width, plane_height, padded_width, padded_height}
 use Rattle.vc_types.specs.TransformParameters.{Parameters}
 use Rattle.vc_types.specs.Transforms.{Cells, levels_across, inverse_level, inverse_transform, lowest_width}
 use Rattle.vc_types.specs.Transforms.{lowest_height}
 use Rattle.vc_types.proofs.PaddedSides.{padded-above}
 use Rattle.vc_wave.specs.Layout.{after_levels}
-use Rattle.vc_wave.specs.Parts.{highest_width, highest_height}
+use Rattle.vc_wave.specs.Sides.{highest_width, highest_height}
 use Rattle.vc_wave.proofs.Grids.{padded_whole}
 use Rattle.vc_wave.proofs.Levels.{next_level}
 use Rattle.vc_wave.proofs.TransformLocality.{side_parts}
@@ -51,3 +54,21 @@ module _ (p : Parameters) (c : Component) (some : 1 ≤ p.depth) where
       let within : rows ≤ padded_height p c =
       rw is (padded-above (plane_height p.shape c) p.depth (omega (arith, is, first))) in
       omega (arith, within, whole_height)
+
+-- a side that is padded to some places has some
+pub side_some : (side depth : ℕ) → 1 ≤ padded side depth → 1 ≤ side
+side_some side depth h = elim (cases_lt side 1) [
+  | inr some ↦ some
+  | inl none ↦ (
+      let same : side + 2 ^ depth - 1 ≡ 2 ^ depth - 1 = omega arith in
+      let part = (2 ^ depth - 1) / 2 ^ depth in
+      let low : part * 2 ^ depth ≤ 2 ^ depth - 1 = div-mul-le_self (2 ^ depth - 1) (2 ^ depth) in
+      let high : 1 ≤ part * 2 ^ depth = subst (λ n. 1 ≤ n / 2 ^ depth * 2 ^ depth) same h in
+      let unit = pow_pos depth in
+      elim (cases_lt part 1) [
+        | inl zero ↦ (let nothing : part * 2 ^ depth ≤ 0 * 2 ^ depth = mul-le-mul_right (2 ^ depth) (omega (arith, zero)) in
+            absurd (omega (arith, nothing, high)))
+        | inr one ↦ (let whole : 1 * 2 ^ depth ≤ part * 2 ^ depth = mul-le-mul_right (2 ^ depth) one in
+            absurd (omega (arith, whole, low, unit)))
+      ])
+]

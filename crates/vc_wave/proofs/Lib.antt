@@ -10,6 +10,9 @@ pub mod Grids
 pub mod Fills
 mod LowCells
 mod BandRows
+mod AnalysedParts
+mod PartedBands
+mod HighestParted
 mod RowHalves
 mod OutputRows
 mod HighestLevel

@@ -1,6 +1,6 @@
 -- Nested subbands whose low ones stand in a list of their own: their cells, one level more, and all of them.
 use Rattle.std.proofs.Common.{◌≡◌, ◌≢◌, ℕ, ◌+◌, ◌*◌, ◌%◌, ◌^◌, ◌<◌, ◌≤◌, ◌⊎◌, inl, inr, List, ℤ, pos}
-use Rattle.std.proofs.Common.{length, ◌++◌, unsigned_abs, arith, ap, sym, subst, ◌∙◌}
+use Rattle.std.proofs.Common.{length, ◌++◌, unsigned_abs, arith, ap, sym, ◌∙◌}
 use mathlib.Core.Path.{fun_ext}
 use Rattle.std.proofs.lemmas.Bool.{cases_lt, cases_eq}
 use Rattle.std.proofs.lemmas.Bool.Decides.{nat_tests}
@@ -10,10 +10,10 @@ use Rattle.std.proofs.Math.Nat.{mul-le-mul_right}
 use Rattle.vc_types.specs.Lifting.{line_of}
 use Rattle.vc_types.specs.Transforms.{Cells, inverse_level, inverse_levels, levels_across}
 use Rattle.vc_wave.specs.NarrowBounds.{AreWithin}
-use Rattle.vc_wave.specs.Parts.{with_low, AreAtMost, held}
+use Rattle.vc_wave.specs.Parts.{with_low, held}
 use Rattle.vc_wave.specs.Planes.{plane_of}
 use Rattle.vc_wave.proofs.Levels.{twice_side, no_levels, next_level}
-use Rattle.vc_wave.proofs.PlaneSteps.{plane_in, plane_out, plane_small, cells_small}
+use Rattle.vc_wave.proofs.PlaneSteps.{plane_in, plane_out, cells_small}
 use Rattle.vc_wave.proofs.TransformLocality.{inverse_level_stays, levels_across_stay}
 
 -- ---- a cell
@@ -82,16 +82,6 @@ module _ (w h pitch : ℕ) (low nested out : List ℤ) where
     pub level_made : after ≡ inverse_level vertical horizontal w h before
     level_made = fun_ext (λ x. fun_ext (λ y. made_at x y (cases_lt x (2 * w)) (cases_lt y (2 * h))))
 
-  module _ (most bound : ℕ) (more : most ≤ bound) (small : AreAtMost most before)
-      (made_small : (x y : ℕ) → x < 2 * w → y < 2 * h → unsigned_abs (line_of out (y * (2 * w) + x)) ≤ bound) where
-    small_at : (x y : ℕ) → (x < 2 * w) ⊎ (2 * w ≤ x) → (y < 2 * h) ⊎ (2 * h ≤ y) → unsigned_abs (after x y) ≤ bound
-    small_at x y (inl a) (inl b) = rw (inside x y a b) (made_small x y a b)
-    small_at x y (inr a) b = rw (beside x y (inl a)) (omega (arith, small x y))
-    small_at x y (inl a) (inr b) = rw (beside x y (inr b)) (omega (arith, small x y))
-
-    pub level_at_most : AreAtMost bound after
-    level_at_most x y = small_at x y (cases_lt x (2 * w)) (cases_lt y (2 * h))
-
 -- ---- levels in turn, from the lowest up
 
 module _ (vertical horizontal w h pitch : ℕ) (first : Cells) (nested : List ℤ) where
@@ -116,21 +106,6 @@ module _ (vertical horizontal w h pitch : ℕ) (first : Cells) (nested : List �
       rw (twice_side w n, twice_side h n)
       (next_level vertical horizontal n w h first (with_low (w * 2 ^ n) (h * 2 ^ n) pitch old nested)
       (with_low (2 * (w * 2 ^ n)) (2 * (h * 2 ^ n)) pitch new nested) so_far (rw (across, down) at made))
-
--- a bound below the next level
-pub bound_below : (w h pitch n most columns rows : ℕ) (low nested : List ℤ) → columns ≡ w * 2 ^ n
-    → rows ≡ h * 2 ^ n → AreAtMost most (with_low (2 * columns) (2 * rows) pitch low nested)
-    → AreAtMost most (with_low (w * 2 ^ (n + 1)) (h * 2 ^ (n + 1)) pitch low nested)
-bound_below w h pitch n most columns rows low nested across down small =
-    rw (twice_side w n, twice_side h n) (rw (across, down) at small)
-
-pub bound_first : (w h pitch most : ℕ) (low nested : List ℤ) → AreAtMost most (with_low w h pitch low nested)
-    → AreAtMost most (with_low (w * 2 ^ 0) (h * 2 ^ 0) pitch low nested)
-bound_first w h pitch most low nested small =
-    let across : w ≡ w * 2 ^ 0 = omega arith in
-    let down : h ≡ h * 2 ^ 0 = omega arith in
-    subst (λ n. AreAtMost most (with_low n (h * 2 ^ 0) pitch low nested)) across
-    (subst (λ n. AreAtMost most (with_low w n pitch low nested)) down small)
 
 -- ---- the lowest subbands
 
@@ -204,17 +179,3 @@ module _ (h stride width : ℕ) (low cells nested : List ℤ)
 
     pub corner_made : with_low width h stride low nested ≡ levels_across wavelet e w h (plane_of stride nested)
     corner_made = fun_ext (λ x. fun_ext (λ y. corner_at x y (cases_lt x width) (cases_lt y h)))
-
-  module _ (most bound : ℕ) (more : most ≤ bound) (own : AreWithin bound cells) (small : AreWithin most nested) where
-    corner_small_at : (x y : ℕ) → (x < width) ⊎ (width ≤ x) → (y < h) ⊎ (h ≤ y)
-        → unsigned_abs (with_low width h stride low nested x y) ≤ bound
-    corner_small_at x y (inl a) (inl b) = rw (corner_in x y a b) (plane_small width bound cells own x y)
-    corner_small_at x y (inr a) b =
-        rw (with_low_out width h stride low nested x y (inl a))
-        (omega (arith, more, plane_small stride most nested small x y))
-    corner_small_at x y (inl a) (inr b) =
-        rw (with_low_out width h stride low nested x y (inr b))
-        (omega (arith, more, plane_small stride most nested small x y))
-
-    pub corner_at_most : AreAtMost bound (with_low width h stride low nested)
-    corner_at_most x y = corner_small_at x y (cases_lt x width) (cases_lt y h)

@@ -77,17 +77,18 @@ left_bound carry start width first cells left bound = record {
 
 -- ---- a plane whose upper rows and lower rows are made apart
 
-pub halves_joined : (columns pairs rows : ℕ) (top bottom : List ℕ) (value : ℕ → ℕ → ℕ)
+pub halves_joined : {A : Type 0} (none : A) (columns pairs rows : ℕ) (top bottom : List A) (value : ℕ → ℕ → A)
     → length top ≡ 2 * pairs * columns
-    → ((x y : ℕ) → x < columns → y < 2 * pairs → slice_index_or top (y * columns + x) 0 ≡ value x (2 * 0 + y))
+    → ((x y : ℕ) → x < columns → y < 2 * pairs
+    → slice_index_or top (y * columns + x) none ≡ value x (2 * 0 + y))
     → ((x y : ℕ) → x < columns → y < rows - 2 * pairs
-    → slice_index_or bottom (y * columns + x) 0 ≡ value x (2 * pairs + y)) → (x y : ℕ) → x < columns → y < rows
-    → slice_index_or (top ++ bottom) (y * columns + x) 0 ≡ value x y
-halves_joined columns pairs rows top bottom value long upper lower x y a b = elim (cases_lt y (2 * pairs)) [
+    → slice_index_or bottom (y * columns + x) none ≡ value x (2 * pairs + y)) → (x y : ℕ) → x < columns → y < rows
+    → slice_index_or (top ++ bottom) (y * columns + x) none ≡ value x y
+halves_joined none columns pairs rows top bottom value long upper lower x y a b = elim (cases_lt y (2 * pairs)) [
   | inl above ↦ (
       let place = mul-add-lt y columns x (2 * pairs) above a in
       let same : 2 * 0 + y ≡ y = omega arith in
-      get_or_append_left top bottom 0 (y * columns + x) (omega (arith, place, long)) ∙ upper x y a above
+      get_or_append_left top bottom none (y * columns + x) (omega (arith, place, long)) ∙ upper x y a above
       ∙ ap (value x) same)
   | inr below ↦ (
       let past : 2 * pairs * columns ≤ y * columns = mul-le-mul_right columns below in
@@ -95,8 +96,8 @@ halves_joined columns pairs rows top bottom value long upper lower x y a b = eli
       ap (λ n. n * columns) (let whole : y - 2 * pairs + 2 * pairs ≡ y = omega arith in whole) in
       let place : y * columns + x - length top ≡ (y - 2 * pairs) * columns + x = omega (arith, past, row, long) in
       let same : 2 * pairs + (y - 2 * pairs) ≡ y = omega arith in
-      get_or-append_right top bottom (y * columns + x) 0 (omega (arith, past, long))
-      ∙ ap (λ n. slice_index_or bottom n 0) place ∙ lower x (y - 2 * pairs) a (omega arith) ∙ ap (value x) same)
+      get_or-append_right top bottom (y * columns + x) none (omega (arith, past, long))
+      ∙ ap (λ n. slice_index_or bottom n none) place ∙ lower x (y - 2 * pairs) a (omega arith) ∙ ap (value x) same)
 ]
 
 pub lower_rows : (rows pairs columns lower : ℕ) → lower + 2 * pairs * columns ≡ rows * columns → 2 * pairs ≤ rows

@@ -2,6 +2,7 @@
 use Rattle.std.proofs.Common.{◌≡◌, ◌≢◌, ℕ, zero, suc, ◌+◌, ◌*◌, ◌%◌, ◌^◌, ◌<◌, ◌≤◌, ◌⊎◌, inl, inr, List}
 use Rattle.std.proofs.Common.{length, set}
 use Rattle.std.proofs.Common.{slice_index_or, ℤ, pos, unsigned_abs, arith, ap, sym, subst, ◌∙◌, Bool, true}
+use Rattle.std.proofs.Common.{Some}
 use Rattle.std.specs.Prelude.{if◌then◌else◌, ◌==◌}
 use Rattle.std.proofs.lemmas.List.{get_or-set_same, get_or-set_other, length-set}
 use Rattle.vc_types.specs.Lifting.{Line, line_of}
@@ -115,25 +116,23 @@ module _ (start half : ℕ) (shifted : Bool) (old new : List ℤ)
     off = off;
   }
 
+-- samples that are readied, and put apart into two halves
+module _ (start half : ℕ) (shifted : Bool) (given : Line) (new : List ℤ) where
   abbrev readied : Line
-  readied k = if shifted then doubled (row_from old start k) else row_from old start k
+  readied k = if shifted then doubled (given k) else given k
 
   pub unwoven : ((k : ℕ) → k < half → line_of new (start + k) ≡ readied (2 * k))
-      → ((k : ℕ) → k < half → line_of new (start + (half + k)) ≡ readied (2 * k + 1))
-      → IsRowMade (λ l. halves_apart half (on_samples doubled shifted (2 * half) l)) start (2 * half) old new
-  unwoven even odd = record {
-    on = λ k h.
-        let below = source_below half k h in
-        let place : start + k ≡ start + half_place half (source_of half k) =
-        ap (λ n. start + n) (sym (half_place-source_of half k h)) in
-        ap (line_of new) place
-        ∙ sym (halves_met half half readied (row_from new start) (λ j lt. sym (even j lt))
-        (λ j lt. sym (odd j lt)) (source_of half k) below)
-        ∙ sym (on_samples_in doubled shifted (2 * half) (row_from old start) (source_of half k) below)
-        ∙ sym (rearranged_in (2 * half) (source_of half)
-        (on_samples doubled shifted (2 * half) (row_from old start)) k h);
-    off = off;
-  }
+      → ((k : ℕ) → k < half → line_of new (start + (half + k)) ≡ readied (2 * k + 1)) → (k : ℕ) → k < 2 * half
+      → row_from new start k ≡ halves_apart half (on_samples doubled shifted (2 * half) given) k
+  unwoven even odd k h =
+      let below = source_below half k h in
+      let place : start + k ≡ start + half_place half (source_of half k) =
+      ap (λ n. start + n) (sym (half_place-source_of half k h)) in
+      ap (line_of new) place
+      ∙ sym (halves_met half half readied (row_from new start) (λ j lt. sym (even j lt))
+      (λ j lt. sym (odd j lt)) (source_of half k) below)
+      ∙ sym (on_samples_in doubled shifted (2 * half) given (source_of half k) below)
+      ∙ sym (rearranged_in (2 * half) (source_of half) (on_samples doubled shifted (2 * half) given) k h)
 
 -- ---- a row whose halves stand apart
 
@@ -232,35 +231,34 @@ module _ (start half : ℕ) where
           off = λ i out. weave.off i out ∙ row_beside old mid beside i out;
         }
 
-    module _ (old : List ℤ) (bound : RowHasBound (parted_rows_bound wavelet) old start (2 * half)) where
-      parts : RowsParted wavelet bound.most bound.after
-      parts = rows_parted wavelet bound.most bound.after bound.fits
+    -- samples that are taken apart
+    module _ (given : Line) (most after : ℕ) (fits : parted_rows_bound wavelet most ≡ Some after)
+        (small : (k : ℕ) → k < 2 * half → unsigned_abs (given k) ≤ most) where
+      parts : RowsParted wavelet most after
+      parts = rows_parted wavelet most after fits
 
       pub double_room : is_shifted wavelet ≡ true → (k : ℕ) → k < 2 * half
-          → 2 * unsigned_abs (line_of old (start + k)) < 2 ^ 31
-      double_room h k lt =
-          (let room = parts.room h in let small = bound.small k lt in omega (arith, room, small))
+          → 2 * unsigned_abs (given k) < 2 ^ 31
+      double_room h k lt = (let room = parts.room h in let own = small k lt in omega (arith, room, own))
 
       abbrev doubles : Line
-      doubles = on_samples doubled (is_shifted wavelet) (2 * half) (row_from old start)
+      doubles = on_samples doubled (is_shifted wavelet) (2 * half) given
 
-      module _ (mid : List ℤ) (unweave : IsRowMade
-          (λ l. halves_apart half (on_samples doubled (is_shifted wavelet) (2 * half) l)) start
-          (2 * half) old mid) where
+      module _ (mid : List ℤ)
+          (apart : (k : ℕ) → k < 2 * half → row_from mid start k ≡ halves_apart half doubles k) where
         -- the samples as they are doubled
         doubled_at : (k : ℕ) → k < 2 * half → line_in (row_halves start half) mid 0 k ≡ doubles k
         doubled_at k h =
             let below = half_place_below half k h in
-            row_at mid k ∙ unweave.on (half_place half k) below
+            row_at mid k ∙ apart (half_place half k) below
             ∙ rearranged_in (2 * half) (source_of half) doubles (half_place half k) below
             ∙ ap doubles (source_of-half_place half k h)
 
         mid_doubled : (k : ℕ) → k < 2 * half
             → unsigned_abs (line_in (row_halves start half) mid 0 k) ≤ parts.twice
         mid_doubled k h =
-            rw (doubled_at k h ∙ on_samples_in doubled (is_shifted wavelet) (2 * half)
-            (row_from old start) k h)
-            (readied_at_most wavelet bound.most bound.after parts (row_from old start k) (bound.small k h))
+            rw (doubled_at k h ∙ on_samples_in doubled (is_shifted wavelet) (2 * half) given k h)
+            (readied_at_most wavelet most after parts (given k) (small k h))
 
         pub analysis_narrow : (x : ℕ) → x < 1
             → StaysNarrow (counted_analysis wavelet) half (line_in (row_halves start half) mid x)
@@ -268,21 +266,18 @@ module _ (start half : ℕ) where
             let first : 0 ≡ x = omega arith in
             subst (λ u. StaysNarrow (counted_analysis wavelet) half
             (line_in (row_halves start half) mid u)) first
-            (record { most = parts.twice; after = bound.after; small = mid_doubled; fits = parts.analysed })
+            (record { most = parts.twice; after = after; small = mid_doubled; fits = parts.analysed })
 
         pub row_parted : (new : List ℤ)
             → ((x k : ℕ) → x < 1 → k < 2 * half → line_in (row_halves start half) new x k
             ≡ analysed wavelet (2 * half) (line_in (row_halves start half) mid x) k)
-            → ((i : ℕ) → IsBeside (row_halves start half) 1 i → line_of new i ≡ line_of mid i)
-            → IsRowMade (remade Analysis wavelet (is_shifted wavelet) half) start (2 * half) old new
-        row_parted new analyse beside = record {
-          on = λ k h.
-              let j = source_of half k in
-              let below = source_below half k h in
-              ap (row_from new start) (sym (half_place-source_of half k h)) ∙ sym (row_at new j)
-              ∙ analyse 0 j (omega arith) below
-              ∙ analysis_is_local wavelet (2 * half) (line_in (row_halves start half) mid 0) doubles
-              (omega arith) doubled_at j below
-              ∙ sym (rearranged_in (2 * half) (source_of half) (analysed wavelet (2 * half) doubles) k h);
-          off = λ i out. row_beside mid new beside i out ∙ unweave.off i out;
-        }
+            → (k : ℕ) → k < 2 * half
+            → row_from new start k ≡ remade Analysis wavelet (is_shifted wavelet) half given k
+        row_parted new analyse k h =
+            let j = source_of half k in
+            let below = source_below half k h in
+            ap (row_from new start) (sym (half_place-source_of half k h)) ∙ sym (row_at new j)
+            ∙ analyse 0 j (omega arith) below
+            ∙ analysis_is_local wavelet (2 * half) (line_in (row_halves start half) mid 0) doubles
+            (omega arith) doubled_at j below
+            ∙ sym (rearranged_in (2 * half) (source_of half) (analysed wavelet (2 * half) doubles) k h)

@@ -123,7 +123,7 @@ module _ (w h width height : ℕ) where
       vertical horizontal)
       (inverse_levels_stay vertical horizontal d (side_once w d width wide) (side_once h d height high))
 
-  forward_levels_stay : (wavelet d : ℕ) → w * 2 ^ d ≤ width → h * 2 ^ d ≤ height
+  pub forward_levels_stay : (wavelet d : ℕ) → w * 2 ^ d ≤ width → h * 2 ^ d ≤ height
       → StaysIn width height (forward_levels wavelet d w h)
   unfolding forward_levels
   forward_levels_stay wavelet zero wide high = none_stays width height

@@ -52,6 +52,12 @@ module _ (wavelet w h : ℕ) where
       ∙ ap (λ (f : Line → Line). on_columns f (2 * w) (rows_apart c)) (remade_parted wavelet h)
       ∙ sym (forward_level_remade wavelet w h c)
 
+  pub level_apart : (c : Cells) → laid_out 1 w h (parted_in_turn wavelet w h c) ≡ forward_level wavelet w h c
+  unfolding row_in_turn
+  level_apart c =
+      parted_level c (laid_out 1 w h (parted_in_turn wavelet w h c))
+      (sym (laid_together 0 w h (parted_in_turn wavelet w h c)))
+
   module _ (level stride : ℕ) (old new : List ℤ) (wide : 2 * w ≤ stride) where
     level_parted : plane_of (stride * 2 ^ level) new
         ≡ parted_in_turn wavelet w h (plane_of (stride * 2 ^ level) old)
@@ -72,11 +78,6 @@ module _ (wavelet levels w h stride : ℕ) (whole : Cells) where
   AreParted n cells =
       forward_levels wavelet (levels - n) w h
       (laid_out n (w * 2 ^ (levels - n)) (h * 2 ^ (levels - n)) (plane_of stride cells)) ≡ whole
-
-  pub first_parted : (cells : List ℤ) → forward_levels wavelet levels w h (plane_of stride cells) ≡ whole
-      → AreParted 0 cells
-  unfolding row_in_turn
-  first_parted cells is = (let all : levels - 0 ≡ levels = omega arith in rw all is)
 
   pub next_parted : (n : ℕ) (old new : List ℤ) → n < levels → w * 2 ^ levels ≤ stride → AreParted n old
       → (pitch columns rows : ℕ) → pitch ≡ stride * 2 ^ n → columns ≡ w * 2 ^ (levels - 1 - n)

@@ -3,6 +3,8 @@ pub mod Lines
 pub mod Remade
 pub mod Samples
 pub mod Layout
+pub mod Sides
+pub mod Highest
 pub mod Parts
 pub mod NarrowBounds
 pub mod ForwardBounds

@@ -1,11 +1,12 @@
 -- A level whose low subband stands in a list of its own, and the others nested.
-use Rattle.std.specs.Prelude.{ℕ, ◌+◌, ◌-◌, ◌*◌, ◌^◌, ◌%◌, ◌≤◌, ◌==◌, if◌then◌else◌, List, ℤ, unsigned_abs}
+use Rattle.std.specs.Prelude.{ℕ, ◌+◌, ◌*◌, ◌%◌, ◌==◌, if◌then◌else◌, List, ℤ}
 use Rattle.vc_types.specs.declared.video.Component.{Component}
 use Rattle.vc_types.specs.TransformParameters.{Parameters}
-use Rattle.vc_types.specs.Transforms.{Cells, is_within, lowest_width, lowest_height}
+use Rattle.vc_types.specs.Transforms.{Cells, is_within}
 use Rattle.vc_lift.specs.Reach.{reach_back, reach_ahead}
 use Rattle.vc_wave.specs.declared.parts.Subbands.{Subbands}
 use Rattle.vc_wave.specs.Planes.{plane_of}
+use Rattle.vc_wave.specs.Sides.{highest_width, highest_height}
 
 -- nested subbands whose first w columns and h rows are taken from the list of the low one
 unfoldable pub with_low : ℕ → ℕ → ℕ → List ℤ → List ℤ → Cells
@@ -14,10 +15,6 @@ with_low w h pitch low nested x y =
 
 abbrev pub subbands_of : Subbands → Cells
 subbands_of s = with_low s.level.w s.level.h s.level.pitch s.low.now s.nested.now
-
--- all magnitudes are at most m
-abbrev pub AreAtMost : ℕ → Cells → Type 0
-AreAtMost m c = (x y : ℕ) → unsigned_abs (c x y) ≤ m
 
 -- which of two lists has the samples below level number n, where each level goes from one to the other
 unfoldable pub held : ℕ → List ℤ → List ℤ → List ℤ
@@ -29,13 +26,6 @@ held n first second = if n % 2 == 0 then first else second
 abbrev pub pairs_held : ℕ → ℕ
 pairs_held wavelet = 16 + reach_back wavelet + reach_ahead wavelet
 
--- the columns and rows of the subbands of a component's highest level
-abbrev pub highest_width : Parameters → Component → ℕ
-highest_width p c = lowest_width p c * 2 ^ p.depth_ho * 2 ^ (p.depth - 1)
-
-abbrev pub highest_height : Parameters → Component → ℕ
-highest_height p c = lowest_height p c * 2 ^ (p.depth - 1)
-
 -- how many cells the inverse transform of a component needs to work in
 abbrev pub room_length : Parameters → Component → ℕ
 room_length p c =
@@ -45,3 +35,11 @@ room_length p c =
 abbrev pub joined_room_length : Parameters → Component → ℕ
 joined_room_length p c =
     2 * (highest_height p c * highest_width p c) + 2 * (2 * pairs_held p.wavelet * (2 * highest_width p c))
+
+-- how many cells the forward transform of a component needs to work in
+abbrev pub forward_room_length : Parameters → Component → ℕ
+forward_room_length p c = 2 * pairs_held p.wavelet * (2 * highest_width p c)
+
+-- the same where the highest level is made in two halves side by side
+abbrev pub joined_forward_room_length : Parameters → Component → ℕ
+joined_forward_room_length p c = 2 * forward_room_length p c

@@ -1,16 +1,16 @@
-ghost use Rattle.std.specs.Prelude.{◌≡◌, ◌+◌, ◌-◌, ◌*◌, ◌^◌, ◌<◌, ◌≤◌, ◌⊎◌, ℕ, IfSome, length};
+ghost use Rattle.std.specs.Prelude.{◌≡◌, ◌+◌, ◌-◌, ◌*◌, ◌^◌, ◌<◌, ◌≤◌, ◌⊎◌, ℕ, IfSome, length, unsigned_abs};
 ghost use Rattle.vc_types.specs.Lifting.{line_of};
 ghost use Rattle.vc_lift.specs.Reach.{HoldsPairs};
-ghost use Rattle.vc_wave.specs.NarrowBounds.{CarriesTo, rows_bound};
-ghost use Rattle.vc_wave.specs.Parts.{subbands_of, AreAtMost, pairs_held};
+ghost use Rattle.vc_wave.specs.NarrowBounds.{AreWithin, CarriesTo, rows_bound};
+ghost use Rattle.vc_wave.specs.Parts.{subbands_of, pairs_held};
 ghost use Rattle.vc_wave.specs.Planes.{plane_of};
 ghost use Rattle.vc_wave.specs.Remade.{half_place, merged};
 
-use crate::bounds::{columns_reach, rows_reach};
+use crate::bounds::rows_reach;
 use crate::extents::Level;
 use crate::narrow::merge_columns;
 use crate::parts::{Band, Subbands};
-use vc_lift::reach_of;
+use vc_lift::{narrow_bound, reach_of};
 
 // So many pairs of rows are made together that they stay in the cache from one step to the next, with those
 // that are gathered for them.
@@ -57,16 +57,37 @@ pub(crate) fn put_cells(cells: &mut [i32], at: usize, nested: &[i32], from: usiz
     ensures off { (i : ℕ) → (i < at) ⊎ (at + width ≤ i)
         → line_of cells.new i ≡ line_of cells.old i }
 {
-    for x in 0..width {
-        cells[at + x] = nested[from + x];
-    }
+    let _most = put_bounded(cells, at, nested, from, width);
 }
 
-// Gathers one pair of rows of a level, the low one and then the high one.
+// The same, and a bound on their magnitudes.
 #[inline(always)]
-fn gather_pair(subbands: &Subbands<'_>, pair: usize, window: &mut [i32], at: usize)
+fn put_bounded(cells: &mut [i32], at: usize, nested: &[i32], from: usize, width: usize) -> u32
+    requires at { at + width ≤ length cells.old }
+    requires from { from + width ≤ length nested.now }
+    ensures on { (x : ℕ) → x < width → line_of cells.new (at + x) ≡ line_of nested.now (from + x) }
+    ensures off { (i : ℕ) → (i < at) ⊎ (at + width ≤ i)
+        → line_of cells.new i ≡ line_of cells.old i }
+    ensures small { (x : ℕ) → x < width → unsigned_abs (line_of nested.now (from + x)) ≤ result }
+{
+    let mut most = 0u32;
+    for x in 0..width {
+        let cell = nested[from + x];
+        cells[at + x] = cell;
+        most = most.max(cell.unsigned_abs());
+    }
+    most
+}
+
+// Gathers one pair of rows of a level, the low one and then the high one, and tells a bound on their cells.
+#[inline(always)]
+fn gather_pair(subbands: &Subbands<'_>, pair: usize, window: &mut [i32], at: usize) -> u32
     requires pair { pair < subbands.now.level.h }
     requires room { at + 4 * subbands.now.level.w ≤ length window.old }
+    ensures low_small { (x : ℕ) → x < 2 * subbands.now.level.w
+        → unsigned_abs (subbands_of subbands.now x pair) ≤ result }
+    ensures high_small { (x : ℕ) → x < 2 * subbands.now.level.w
+        → unsigned_abs (subbands_of subbands.now x (subbands.now.level.h + pair)) ≤ result }
     ensures low { (x : ℕ) → x < 2 * subbands.now.level.w
         → line_of window.new (at + x) ≡ subbands_of subbands.now x pair }
     ensures high { (x : ℕ) → x < 2 * subbands.now.level.w
@@ -79,44 +100,43 @@ fn gather_pair(subbands: &Subbands<'_>, pair: usize, window: &mut [i32], at: usi
     let low = pair * level.w;
     let beside = pair * level.pitch + level.w;
     let below = (level.h + pair) * level.pitch;
-    put_cells(window, at, subbands.low, low, level.w);
-    put_cells(window, at + level.w, subbands.nested, beside, level.w);
-    put_cells(
+    let first = put_bounded(window, at, subbands.low, low, level.w);
+    let second = put_bounded(window, at + level.w, subbands.nested, beside, level.w);
+    let third = put_bounded(
         window,
         at + 2 * level.w,
         subbands.nested,
         below,
         2 * level.w,
     );
+    first.max(second).max(third)
 }
 
-// Gathers so many pairs of rows of a level, from one of them on, with the low and the high rows in turn.
-fn gather(subbands: &Subbands<'_>, first: usize, pairs: usize, window: &mut [i32])
+// Gathers so many pairs of rows of a level, from one of them on, with the low and the high rows in turn, and
+// tells a bound on their cells.
+fn gather(subbands: &Subbands<'_>, first: usize, pairs: usize, window: &mut [i32]) -> u32
     requires inside { first + pairs ≤ subbands.now.level.h }
     requires window { length window.old ≡ 2 * pairs * (2 * subbands.now.level.w) }
-    ensures { (x k : ℕ) → x < 2 * subbands.now.level.w → k < 2 * pairs
+    ensures made { (x k : ℕ) → x < 2 * subbands.now.level.w → k < 2 * pairs
         → plane_of (2 * subbands.now.level.w) window.new x k
         ≡ subbands_of subbands.now x (half_place subbands.now.level.h (2 * first + k)) }
+    ensures within { AreWithin result window.new }
 {
+    let mut most = 0u32;
     for n in 0..pairs {
-        gather_pair(subbands, first + n, window, 2 * n * (2 * subbands.level.w));
+        let seen = gather_pair(subbands, first + n, window, 2 * n * (2 * subbands.level.w));
+        most = most.max(seen);
     }
+    most
 }
 
 /// Gathers a band of a level and synthesises its columns (ST 2042-1, vertical synthesis), as many of its rows
-/// as are wanted. From a bound on all cells of the subbands it tells one on the rows once they are
-/// synthesised too; none where 32 bits may not be enough.
-pub(crate) fn synth_band(
-    subbands: &Subbands<'_>,
-    band: &Band,
-    window: &mut [i32],
-    most: u64,
-) -> Option<u64>
+/// as are wanted. It tells a bound on the rows once they are synthesised too; none where 32 bits may not be
+/// enough.
+pub(crate) fn synth_band(subbands: &Subbands<'_>, band: &Band, window: &mut [i32]) -> Option<u64>
     requires holds { HoldsPairs subbands.now.level.wavelets.down subbands.now.level.h
         band.now.from band.now.to band.now.first band.now.pairs }
     requires window { length window.old ≡ 2 * band.now.pairs * (2 * subbands.now.level.w) }
-    requires most { most < 2 ^ 31 }
-    requires within { AreAtMost most (subbands_of subbands.now) }
     ensures made { IfSome result (λ after. (x k : ℕ) → x < 2 * subbands.now.level.w
         → 2 * band.now.from ≤ 2 * band.now.first + k → 2 * band.now.first + k < 2 * band.now.to
         → plane_of (2 * subbands.now.level.w) window.new x k
@@ -124,11 +144,13 @@ pub(crate) fn synth_band(
         (λ j. subbands_of subbands.now x j) (2 * band.now.first + k)) }
     ensures bound { IfSome result
         (λ after. CarriesTo (rows_bound subbands.now.level.wavelets.across) window.new after) }
-    ensures small { IfSome result (λ after. after < 2 ^ 31) }
 {
-    gather(subbands, band.first, band.pairs, window);
+    let most = u64::from(gather(subbands, band.first, band.pairs, window));
+    if most >= 1 << 31 {
+        return None;
+    }
     let level = subbands.level;
-    let made = columns_reach(level.wavelets.down, window, most)?;
+    let made = narrow_bound(level.wavelets.down, most)?;
     let rows = Level {
         wavelets: level.wavelets,
         pitch: 2 * level.w,

@@ -1,5 +1,4 @@
 ghost use Rattle.std.specs.Prelude.{◌≡◌, ◌^◌, ◌<◌, ◌≤◌, IfSome};
-ghost use Rattle.vc_lift.specs.Ranges.{narrow_bound};
 ghost use Rattle.vc_wave.specs.NarrowBounds.{shifted_bound, rows_bound, AreWithin, CarriesTo};
 
 use crate::shift::is_shifted;
@@ -33,23 +32,8 @@ pub(crate) fn rows_bound(wavelet: u8, most: u64) -> Option<u64>
     shifted_bound(wavelet, most, made)
 }
 
-/// A bound on all cells after columns are synthesised in 32 bits, from one before it. Where that is too high,
-/// the greatest magnitude among the cells takes its place; where that is too high, there is none.
-pub(crate) fn columns_reach(wavelet: u8, cells: &[i32], most: u64) -> Option<u64>
-    requires wavelet { wavelet ≤ 6 }
-    requires most { most < 2 ^ 31 }
-    requires within { AreWithin most cells.now }
-    ensures value { IfSome result (λ after. CarriesTo (narrow_bound wavelet) cells.now after) }
-    ensures small { IfSome result (λ after. after < 2 ^ 31) }
-{
-    let after = narrow_bound(wavelet, most);
-    if after.is_some() {
-        return after;
-    }
-    narrow_bound(wavelet, most.min(u64::from(greatest(cells))))
-}
-
-/// The same where rows are synthesised and shifted.
+/// The same. Where that is too high, the greatest magnitude among the cells takes its place; where that is too
+/// high, there is none.
 pub(crate) fn rows_reach(wavelet: u8, cells: &[i32], most: u64) -> Option<u64>
     requires wavelet { wavelet ≤ 6 }
     requires most { most < 2 ^ 31 }

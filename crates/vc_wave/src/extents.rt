@@ -1,9 +1,12 @@
 ghost use Rattle.std.specs.Prelude.{◌≡◌, ◌*◌, ◌^◌, ◌<◌, ◌≤◌};
+ghost use Rattle.vc_types.specs.Subbands.{padded_width, padded_height};
 ghost use Rattle.vc_types.specs.TransformParameters.{parameters_of};
 ghost use Rattle.vc_types.specs.Transforms.{lowest_width, lowest_height};
+ghost use Rattle.vc_wave.specs.Sides.{highest_width, highest_height};
 
 use crate::sides::side_at;
 use crate::turn::{Nesting, nesting_of};
+use vc_geometry::padded;
 use vc_types::{Component, Plan};
 
 /// The wavelets of columns and rows.
@@ -90,4 +93,20 @@ pub(crate) fn levels_of(plan: &Plan, c: Component, pitch: usize) -> Levels
         nesting: nesting_of(plan, c),
         pitch,
     }
+}
+
+/// The highest level of a component, in rows of the padded width.
+pub(crate) fn highest(plan: &Plan, c: Component) -> Level
+    ensures down { result.wavelets.down ≡ plan.now.wavelet }
+    ensures across { result.wavelets.across ≡ plan.now.wavelet_ho }
+    ensures pitch { result.pitch ≡ padded_width (parameters_of plan.now) c }
+    ensures w { result.w ≡ highest_width (parameters_of plan.now) c }
+    ensures h { result.h ≡ highest_height (parameters_of plan.now) c }
+    ensures columns { 2 * result.w ≡ padded_width (parameters_of plan.now) c }
+    ensures rows { 2 * result.h ≡ padded_height (parameters_of plan.now) c }
+    ensures small { (result.w ≤ 4096) × (result.h ≤ 4096) }
+{
+    let (stride, _) = padded(plan, c);
+    let levels = levels_of(plan, c, stride as usize);
+    levels.level(plan.depth - 1, stride as usize)
 }

@@ -1,4 +1,4 @@
-ghost use Rattle.std.specs.Prelude.{◌≡◌, ◌+◌, ◌-◌, ◌*◌, ◌^◌, ◌<◌, ◌≤◌, ◌⊎◌, ℕ, IfSome, true, length};
+ghost use Rattle.std.specs.Prelude.{◌≡◌, ◌+◌, ◌-◌, ◌*◌, ◌^◌, ◌<◌, ◌≤◌, ◌⊎◌, ℕ, true, length};
 ghost use Rattle.std.specs.Prelude.{unsigned_abs};
 ghost use Rattle.vc_types.specs.Lifting.{line_of};
 ghost use Rattle.vc_types.specs.Subbands.{padded_width, padded_height};
@@ -9,11 +9,11 @@ ghost use Rattle.vc_types.specs.Wavelets.{is_shifted};
 ghost use Rattle.vc_lift.specs.Reach.{HoldsPairs};
 ghost use Rattle.vc_wave.specs.declared.pass.Direction.TheVariants.{Synthesis};
 ghost use Rattle.vc_wave.specs.Layout.{after_levels};
-ghost use Rattle.vc_wave.specs.NarrowBounds.{AreWithin, HasBound, RowHasBound, rows_bound};
-ghost use Rattle.vc_wave.specs.Parts.{with_low, subbands_of, AreAtMost, pairs_held, held};
-ghost use Rattle.vc_wave.specs.Parts.{highest_width, highest_height};
+ghost use Rattle.vc_wave.specs.NarrowBounds.{HasBound, RowHasBound, rows_bound};
+ghost use Rattle.vc_wave.specs.Parts.{with_low, subbands_of, pairs_held, held};
 ghost use Rattle.vc_wave.specs.Planes.{plane_of};
 ghost use Rattle.vc_wave.specs.Remade.{half_place, remade, shifted_down};
+ghost use Rattle.vc_wave.specs.Sides.{highest_width, highest_height};
 
 use crate::bands::{band_from, put_cells, synth_band};
 use crate::bounds::greatest;
@@ -97,35 +97,25 @@ fn keep_rows(rows: Rows, span: Span, cells: &mut [i32], out: &mut [i32])
     }
 }
 
-// Makes a band of a level below the highest, and leaves its samples in rows of another list. From a bound on
-// all cells of the subbands it tells one on the samples; none where 32 bits may not be enough.
-fn merge_band(
-    subbands: &Subbands<'_>,
-    band: &Band,
-    window: &mut [i32],
-    most: u64,
-    out: &mut [i32],
-) -> Option<u64>
+// Makes a band of a level below the highest, and leaves its samples in rows of another list. It tells whether
+// 32 bits were enough.
+fn merge_band(subbands: &Subbands<'_>, band: &Band, window: &mut [i32], out: &mut [i32]) -> bool
     requires holds { HoldsPairs subbands.now.level.wavelets.down subbands.now.level.h
         band.now.from band.now.to band.now.first band.now.pairs }
     requires window { length window.old ≡ 2 * band.now.pairs * (2 * subbands.now.level.w) }
-    requires most { most < 2 ^ 31 }
-    requires within { AreAtMost most (subbands_of subbands.now) }
     requires order { (band.now.from < band.now.to) × (band.now.to ≤ subbands.now.level.h) }
     requires out { 2 * subbands.now.level.h * (2 * subbands.now.level.w) ≤ length out.old }
-    ensures made { IfSome result (λ after. (x y : ℕ) → x < 2 * subbands.now.level.w
+    ensures made { result ≡ true → (x y : ℕ) → x < 2 * subbands.now.level.w
         → 2 * band.now.from ≤ y → y < 2 * band.now.to
         → line_of out.new (y * (2 * subbands.now.level.w) + x)
         ≡ inverse_level subbands.now.level.wavelets.down subbands.now.level.wavelets.across
-        subbands.now.level.w subbands.now.level.h (subbands_of subbands.now) x y) }
-    ensures within { IfSome result (λ after. (x y : ℕ) → x < 2 * subbands.now.level.w
-        → 2 * band.now.from ≤ y → y < 2 * band.now.to
-        → unsigned_abs (line_of out.new (y * (2 * subbands.now.level.w) + x)) ≤ after) }
+        subbands.now.level.w subbands.now.level.h (subbands_of subbands.now) x y }
     ensures before { (i : ℕ) → i < 2 * band.now.from * (2 * subbands.now.level.w)
         → line_of out.new i ≡ line_of out.old i }
-    ensures small { IfSome result (λ after. after < 2 ^ 31) }
 {
-    let after = synth_band(subbands, band, window, most)?;
+    let Some(_after) = synth_band(subbands, band, window) else {
+        return false;
+    };
     let level = subbands.level;
     let rows = Rows {
         wavelet: level.wavelets.across,
@@ -139,42 +129,36 @@ fn merge_band(
         count: 2 * (band.to - band.from),
     };
     keep_rows(rows, span, window, out);
-    Some(after)
+    true
 }
 
-// Makes a level below the highest band by band, and leaves its samples row by row in another list. From a
-// bound on all cells of the subbands it tells one on the cells of the next level's; none where 32 bits may
-// not be enough.
-fn merge_level(subbands: &Subbands<'_>, room: &mut [i32], most: u64, out: &mut [i32]) -> Option<u64>
+// Makes a level below the highest band by band, and leaves its samples row by row in another list. It tells
+// whether 32 bits were enough.
+fn merge_level(subbands: &Subbands<'_>, room: &mut [i32], out: &mut [i32]) -> bool
     requires room { 2 * pairs_held subbands.now.level.wavelets.down * (2 * subbands.now.level.w)
         ≤ length room.old }
-    requires most { most < 2 ^ 31 }
-    requires within { AreAtMost most (subbands_of subbands.now) }
     requires out { 2 * subbands.now.level.h * (2 * subbands.now.level.w) ≤ length out.old }
-    ensures made { IfSome result (λ after.
-        with_low (2 * subbands.now.level.w) (2 * subbands.now.level.h) subbands.now.level.pitch
+    ensures { result ≡ true
+        → with_low (2 * subbands.now.level.w) (2 * subbands.now.level.h) subbands.now.level.pitch
         out.new subbands.now.nested.now
         ≡ inverse_level subbands.now.level.wavelets.down subbands.now.level.wavelets.across
-        subbands.now.level.w subbands.now.level.h (subbands_of subbands.now)) }
-    ensures within { IfSome result (λ after. AreAtMost after
-        (with_low (2 * subbands.now.level.w) (2 * subbands.now.level.h)
-        subbands.now.level.pitch out.new subbands.now.nested.now)) }
-    ensures small { IfSome result (λ after. after < 2 ^ 31) }
+        subbands.now.level.w subbands.now.level.h (subbands_of subbands.now) }
 {
     let level = subbands.level;
-    let mut bound = most;
     let mut pair = 0;
     while pair < level.h {
         let band = band_from(level.wavelets.down, level.h, pair);
         let window = &mut room[..2 * band.pairs * (2 * level.w)];
-        let after = merge_band(subbands, &band, window, most, out)?;
-        bound = bound.max(after);
+        if !merge_band(subbands, &band, window, out) {
+            return false;
+        }
         pair = band.to;
     }
-    Some(bound)
+    true
 }
 
 // Makes level number `n` out of the list that has the samples below it, and leaves its samples in the other.
+// It tells whether 32 bits were enough.
 fn merge_turn(
     level: Level,
     n: u8,
@@ -182,24 +166,16 @@ fn merge_turn(
     first: &mut [i32],
     second: &mut [i32],
     room: &mut [i32],
-    most: u64,
-) -> Option<u64>
+) -> bool
     requires across { 2 * level.w ≤ level.pitch }
     requires down { 2 * level.h * level.pitch ≤ length nested.now }
     requires first { 2 * level.h * (2 * level.w) ≤ length first.old }
     requires second { 2 * level.h * (2 * level.w) ≤ length second.old }
     requires room { 2 * pairs_held level.wavelets.down * (2 * level.w) ≤ length room.old }
-    requires most { most < 2 ^ 31 }
-    requires within { AreAtMost most
-        (with_low level.w level.h level.pitch (held n first.old second.old) nested.now) }
-    ensures made { IfSome result (λ after.
-        with_low (2 * level.w) (2 * level.h) level.pitch (held (n + 1) first.new second.new) nested.now
+    ensures { result ≡ true
+        → with_low (2 * level.w) (2 * level.h) level.pitch (held (n + 1) first.new second.new) nested.now
         ≡ inverse_level level.wavelets.down level.wavelets.across level.w level.h
-        (with_low level.w level.h level.pitch (held n first.old second.old) nested.now)) }
-    ensures within { IfSome result (λ after. AreAtMost after
-        (with_low (2 * level.w) (2 * level.h) level.pitch (held (n + 1) first.new second.new)
-        nested.now)) }
-    ensures small { IfSome result (λ after. after < 2 ^ 31) }
+        (with_low level.w level.h level.pitch (held n first.old second.old) nested.now) }
 {
     if n % 2 == 0 {
         let subbands = Subbands {
@@ -207,18 +183,19 @@ fn merge_turn(
             low: first,
             nested,
         };
-        merge_level(&subbands, room, most, second)
+        merge_level(&subbands, room, second)
     } else {
         let subbands = Subbands {
             level,
             low: second,
             nested,
         };
-        merge_level(&subbands, room, most, first)
+        merge_level(&subbands, room, first)
     }
 }
 
-// Makes the first levels both ways. The samples below the lowest of them stand in the first of two lists.
+// Makes the first levels both ways. The samples below the lowest of them stand in the first of two lists. It
+// tells whether 32 bits were enough.
 #[tactic(auto, using(crate::proofs::Levels::level_fits, crate::proofs::Levels::level_some))]
 fn merge_levels(
     levels: Levels,
@@ -227,8 +204,7 @@ fn merge_levels(
     first: &mut [i32],
     second: &mut [i32],
     room: &mut [i32],
-    most: u64,
-) -> Option<u64>
+) -> bool
     requires count { count < levels.nesting.levels }
     requires across { levels.nesting.w * 2 ^ levels.nesting.levels ≤ levels.pitch }
     requires down { levels.nesting.h * 2 ^ levels.nesting.levels * levels.pitch
@@ -239,26 +215,20 @@ fn merge_levels(
         ≤ length second.old }
     requires room { 2 * pairs_held levels.wavelets.down * (levels.nesting.w * 2 ^ count)
         ≤ length room.old }
-    requires most { most < 2 ^ 31 }
-    requires within { AreAtMost most
-        (with_low levels.nesting.w levels.nesting.h levels.pitch first.old nested.now) }
-    ensures made { IfSome result (λ after.
-        with_low (levels.nesting.w * 2 ^ count) (levels.nesting.h * 2 ^ count) levels.pitch
+    ensures { result ≡ true
+        → with_low (levels.nesting.w * 2 ^ count) (levels.nesting.h * 2 ^ count) levels.pitch
         (held count first.new second.new) nested.now
         ≡ inverse_levels levels.wavelets.down levels.wavelets.across count levels.nesting.w
         levels.nesting.h
-        (with_low levels.nesting.w levels.nesting.h levels.pitch first.old nested.now)) }
-    ensures within { IfSome result (λ after. AreAtMost after
-        (with_low (levels.nesting.w * 2 ^ count) (levels.nesting.h * 2 ^ count) levels.pitch
-        (held count first.new second.new) nested.now)) }
-    ensures small { IfSome result (λ after. after < 2 ^ 31) }
+        (with_low levels.nesting.w levels.nesting.h levels.pitch first.old nested.now) }
 {
-    let mut bound = most;
     for n in 0..count {
         let level = levels.level(n, levels.pitch);
-        bound = merge_turn(level, n, nested, first, second, room, bound)?;
+        if !merge_turn(level, n, nested, first, second, room) {
+            return false;
+        }
     }
-    Some(bound)
+    true
 }
 
 // Copies the first columns and rows of nested subbands to a list of their own, row by row.
@@ -275,7 +245,8 @@ fn copy_corner(nested: &[i32], stride: usize, cells: &mut [i32], columns: usize,
 }
 
 // Takes the lowest subbands of a component, which have these rows once so many levels across alone are
-// made, and makes these levels, in a list that is as long as the rows are. The line is room to work in.
+// made, and makes these levels, in a list that is as long as the rows are. The line is room to work in. It
+// tells whether 32 bits were enough.
 fn corner_across(
     rows: Rows,
     levels: u8,
@@ -283,8 +254,7 @@ fn corner_across(
     stride: usize,
     cells: &mut [i32],
     line: &mut [i32],
-    most: u64,
-) -> Option<u64>
+) -> bool
     requires levels { levels ≤ 5 }
     requires pitch { rows.pitch ≡ rows.half * 2 ^ levels }
     requires narrow { rows.half * 2 ^ levels < 2 ^ 60 }
@@ -292,29 +262,24 @@ fn corner_across(
     requires down { rows.count * stride ≤ length nested.now }
     requires cells { length cells.old ≡ rows.count * rows.pitch }
     requires line { rows.pitch ≤ length line.old }
-    requires most { most < 2 ^ 31 }
-    requires within { AreWithin most nested.now }
-    ensures made { IfSome result (λ after. (x y : ℕ) → x < rows.pitch → y < rows.count
+    ensures { result ≡ true → (x y : ℕ) → x < rows.pitch → y < rows.count
         → plane_of rows.pitch cells.new x y
-        ≡ levels_across rows.wavelet levels rows.half rows.count (plane_of stride nested.now) x y) }
-    ensures within { IfSome result (λ after. (most ≤ after) × AreWithin after cells.new) }
-    ensures small { IfSome result (λ after. after < 2 ^ 31) }
+        ≡ levels_across rows.wavelet levels rows.half rows.count (plane_of stride nested.now) x y }
 {
     copy_corner(nested, stride, cells, rows.pitch, rows.count);
-    let after = merge_across(rows, levels, cells, line, most)?;
-    Some(after.max(most))
+    let most = u64::from(greatest(cells));
+    if most >= 1 << 31 {
+        return false;
+    }
+    let Some(_after) = merge_across(rows, levels, cells, line, most) else {
+        return false;
+    };
+    true
 }
 
-// The samples below the levels both ways of a component, in the first rows of a list. From a bound on all
-// coefficients it tells one on them and on what was made; none where 32 bits may not be enough.
-fn lowest_rows(
-    plan: &Plan,
-    c: Component,
-    nested: &[i32],
-    low: &mut [i32],
-    line: &mut [i32],
-    most: u64,
-) -> Option<u64>
+// The samples below the levels both ways of a component, in the first rows of a list. It tells whether 32
+// bits were enough.
+fn lowest_rows(plan: &Plan, c: Component, nested: &[i32], low: &mut [i32], line: &mut [i32]) -> bool
     requires nested { padded_height (parameters_of plan.now) c
         * padded_width (parameters_of plan.now) c ≤ length nested.now }
     requires low { lowest_height (parameters_of plan.now) c
@@ -322,20 +287,13 @@ fn lowest_rows(
         ≤ length low.old }
     requires line { lowest_width (parameters_of plan.now) c * 2 ^ (parameters_of plan.now).depth_ho
         ≤ length line.old }
-    requires most { most < 2 ^ 31 }
-    requires within { AreWithin most nested.now }
-    ensures made { IfSome result (λ after.
-        with_low (lowest_width (parameters_of plan.now) c * 2 ^ (parameters_of plan.now).depth_ho)
+    ensures { result ≡ true
+        → with_low (lowest_width (parameters_of plan.now) c * 2 ^ (parameters_of plan.now).depth_ho)
         (lowest_height (parameters_of plan.now) c) (padded_width (parameters_of plan.now) c) low.new
         nested.now
         ≡ levels_across (parameters_of plan.now).wavelet_ho (parameters_of plan.now).depth_ho
         (lowest_width (parameters_of plan.now) c) (lowest_height (parameters_of plan.now) c)
-        (plane_of (padded_width (parameters_of plan.now) c) nested.now)) }
-    ensures within { IfSome result (λ after. AreAtMost after
-        (with_low (lowest_width (parameters_of plan.now) c * 2 ^ (parameters_of plan.now).depth_ho)
-        (lowest_height (parameters_of plan.now) c) (padded_width (parameters_of plan.now) c) low.new
-        nested.now)) }
-    ensures small { IfSome result (λ after. after < 2 ^ 31) }
+        (plane_of (padded_width (parameters_of plan.now) c) nested.now) }
 {
     let (w, h) = lowest(plan, c);
     let (stride, _) = padded(plan, c);
@@ -346,22 +304,20 @@ fn lowest_rows(
         count: h,
         half: w,
     };
-    let after = corner_across(
+    corner_across(
         rows,
         plan.depth_ho,
         nested,
         stride as usize,
         &mut low[..h * width],
         line,
-        most,
-    )?;
-    Some(after)
+    )
 }
 
 /// Makes the levels across alone of a component, and all both ways but the highest, in 32 bits (ST 2042-1,
 /// inverse wavelet transform). The coefficients stand row by row in nested subbands, and are only read. The
-/// samples below the highest level are left row by row in one of two lists, as `held` says. It tells a bound
-/// on all cells of the highest level's subbands; none where 32 bits may not be enough.
+/// samples below the highest level are left row by row in one of two lists, as `held` says. It tells whether
+/// 32 bits were enough.
 pub(crate) fn merge_below(
     plan: &Plan,
     c: Component,
@@ -369,7 +325,7 @@ pub(crate) fn merge_below(
     first: &mut [i32],
     second: &mut [i32],
     room: &mut [i32],
-) -> Option<u64>
+) -> bool
     requires nested { padded_height (parameters_of plan.now) c
         * padded_width (parameters_of plan.now) c ≤ length nested.now }
     requires first { highest_height (parameters_of plan.now) c * highest_width (parameters_of plan.now) c
@@ -378,24 +334,17 @@ pub(crate) fn merge_below(
         * highest_width (parameters_of plan.now) c ≤ length second.old }
     requires room { 2 * pairs_held plan.now.wavelet * (2 * highest_width (parameters_of plan.now) c)
         ≤ length room.old }
-    ensures made { IfSome result (λ after.
-        with_low (highest_width (parameters_of plan.now) c) (highest_height (parameters_of plan.now) c)
+    ensures { result ≡ true
+        → with_low (highest_width (parameters_of plan.now) c) (highest_height (parameters_of plan.now) c)
         (padded_width (parameters_of plan.now) c) (held (plan.now.depth - 1) first.new second.new)
         nested.now
         ≡ after_levels (parameters_of plan.now) c (plan.now.depth - 1)
-        (plane_of (padded_width (parameters_of plan.now) c) nested.now)) }
-    ensures within { IfSome result (λ after. AreAtMost after
-        (with_low (highest_width (parameters_of plan.now) c) (highest_height (parameters_of plan.now) c)
-        (padded_width (parameters_of plan.now) c) (held (plan.now.depth - 1) first.new second.new)
-        nested.now)) }
-    ensures small { IfSome result (λ after. after < 2 ^ 31) }
+        (plane_of (padded_width (parameters_of plan.now) c) nested.now) }
 {
-    let most = u64::from(greatest(nested));
-    if most >= 1 << 31 {
-        return None;
+    if !lowest_rows(plan, c, nested, first, room) {
+        return false;
     }
-    let most = lowest_rows(plan, c, nested, first, room, most)?;
     let (stride, _) = padded(plan, c);
     let levels = levels_of(plan, c, stride as usize);
-    merge_levels(levels, plan.depth - 1, nested, first, second, room, most)
+    merge_levels(levels, plan.depth - 1, nested, first, second, room)
 }

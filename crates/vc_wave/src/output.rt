@@ -10,19 +10,18 @@ ghost use Rattle.vc_types.specs.Wavelets.{is_shifted};
 ghost use Rattle.vc_lift.specs.Reach.{HoldsPairs};
 ghost use Rattle.vc_wave.specs.declared.pass.Direction.TheVariants.{Synthesis};
 ghost use Rattle.vc_wave.specs.NarrowBounds.{HasBound, RowHasBound, rows_bound};
-ghost use Rattle.vc_wave.specs.Parts.{subbands_of, AreAtMost, pairs_held, held, room_length};
-ghost use Rattle.vc_wave.specs.Parts.{highest_width, highest_height, joined_room_length};
+ghost use Rattle.vc_wave.specs.Parts.{subbands_of, pairs_held, held, room_length};
+ghost use Rattle.vc_wave.specs.Parts.{joined_room_length};
 ghost use Rattle.vc_wave.specs.Planes.{plane_of};
 ghost use Rattle.vc_wave.specs.Remade.{half_place, remade, shifted_down};
 
 use crate::bands::{band_from, pairs_held, synth_band};
-use crate::extents::{Level, Rows, levels_of};
+use crate::extents::{Rows, highest};
 use crate::lower::merge_below;
 use crate::narrow::shifted_down;
 use crate::parts::{Band, Span, Subbands};
 use crate::shift::is_shifted;
 use std::thread::{Threads, join_mut};
-use vc_geometry::padded;
 use vc_lift::{Halves, synth_narrow};
 use vc_types::{Component, Plan};
 
@@ -150,13 +149,11 @@ fn put_rows(rows: Rows, span: Span, cells: &mut [i32], samples: &mut [u16], form
 }
 
 // Makes a band of the highest level, and puts its samples, clipped, into rows of the plane that lie below so
-// many pairs of the level's rows. From a bound on all cells of the subbands it tells whether 32 bits were
-// enough.
+// many pairs of the level's rows. It tells whether 32 bits were enough.
 fn put_band(
     subbands: &Subbands<'_>,
     band: &Band,
     window: &mut [i32],
-    most: u64,
     above: usize,
     samples: &mut [u16],
     format: Format,
@@ -164,8 +161,6 @@ fn put_band(
     requires holds { HoldsPairs subbands.now.level.wavelets.down subbands.now.level.h
         band.now.from band.now.to band.now.first band.now.pairs }
     requires window { length window.old ≡ 2 * band.now.pairs * (2 * subbands.now.level.w) }
-    requires most { most < 2 ^ 31 }
-    requires within { AreAtMost most (subbands_of subbands.now) }
     requires depth { (1 ≤ format.depth) × (format.depth ≤ 16) }
     requires width { format.columns ≤ 2 * subbands.now.level.w }
     requires height { 2 * above + format.rows ≤ 2 * subbands.now.level.h }
@@ -181,7 +176,7 @@ fn put_band(
     ensures before { (i : ℕ) → i < 2 * (band.now.from - above) * format.columns
         → slice_index_or samples.new i 0 ≡ slice_index_or samples.old i 0 }
 {
-    let Some(_after) = synth_band(subbands, band, window, most) else {
+    let Some(_after) = synth_band(subbands, band, window) else {
         return false;
     };
     let level = subbands.level;
@@ -202,20 +197,16 @@ fn put_band(
 }
 
 // Makes rows of the highest level, below so many pairs of them, band by band, and fills a plane of as many
-// rows with their samples, which are clipped. From a bound on all cells of the subbands it tells whether 32
-// bits were enough.
+// rows with their samples, which are clipped. It tells whether 32 bits were enough.
 fn put_level(
     subbands: &Subbands<'_>,
     room: &mut [i32],
-    most: u64,
     above: usize,
     samples: &mut [u16],
     format: Format,
 ) -> bool
     requires room { 2 * pairs_held subbands.now.level.wavelets.down * (2 * subbands.now.level.w)
         ≤ length room.old }
-    requires most { most < 2 ^ 31 }
-    requires within { AreAtMost most (subbands_of subbands.now) }
     requires depth { (1 ≤ format.depth) × (format.depth ≤ 16) }
     requires width { format.columns ≤ 2 * subbands.now.level.w }
     requires height { 2 * above + format.rows ≤ 2 * subbands.now.level.h }
@@ -231,28 +222,12 @@ fn put_level(
     while 2 * pair < 2 * above + format.rows {
         let band = band_from(level.wavelets.down, level.h, pair);
         let window = &mut room[..2 * band.pairs * (2 * level.w)];
-        if !put_band(subbands, &band, window, most, above, samples, format) {
+        if !put_band(subbands, &band, window, above, samples, format) {
             return false;
         }
         pair = band.to;
     }
     true
-}
-
-// The highest level of a component, in rows of the padded width.
-fn highest(plan: &Plan, c: Component) -> Level
-    ensures down { result.wavelets.down ≡ plan.now.wavelet }
-    ensures across { result.wavelets.across ≡ plan.now.wavelet_ho }
-    ensures pitch { result.pitch ≡ padded_width (parameters_of plan.now) c }
-    ensures w { result.w ≡ highest_width (parameters_of plan.now) c }
-    ensures h { result.h ≡ highest_height (parameters_of plan.now) c }
-    ensures columns { 2 * result.w ≡ padded_width (parameters_of plan.now) c }
-    ensures rows { 2 * result.h ≡ padded_height (parameters_of plan.now) c }
-    ensures small { (result.w ≤ 4096) × (result.h ≤ 4096) }
-{
-    let (stride, _) = padded(plan, c);
-    let levels = levels_of(plan, c, stride as usize);
-    levels.level(plan.depth - 1, stride as usize)
 }
 
 /// How many cells `inverse_output` needs to work in.
@@ -277,14 +252,11 @@ fn put_halves<H: Threads>(
     rt: &H,
     subbands: &Subbands<'_>,
     room: &mut [i32],
-    most: u64,
     samples: &mut [u16],
     format: Format,
 ) -> bool
     requires room { 2 * (2 * pairs_held subbands.now.level.wavelets.down
         * (2 * subbands.now.level.w)) ≤ length room.old }
-    requires most { most < 2 ^ 31 }
-    requires within { AreAtMost most (subbands_of subbands.now) }
     requires depth { (1 ≤ format.depth) × (format.depth ≤ 16) }
     requires width { format.columns ≤ 2 * subbands.now.level.w }
     requires height { format.rows ≤ 2 * subbands.now.level.h }
@@ -311,8 +283,8 @@ fn put_halves<H: Threads>(
     let (top, bottom) = samples.split_at_mut(2 * pairs * format.columns);
     let (first, second) = join_mut(
         rt,
-        &mut || put_level(subbands, front, most, 0, top, upper),
-        &mut || put_level(subbands, back, most, pairs, bottom, lower),
+        &mut || put_level(subbands, front, 0, top, upper),
+        &mut || put_level(subbands, back, pairs, bottom, lower),
     );
     first && second
 }
@@ -355,15 +327,15 @@ pub fn inverse_output(
     let count = level.h * level.w;
     let (low, rest) = room.split_at_mut(count);
     let (next, band) = rest.split_at_mut(count);
-    let Some(most) = merge_below(plan, c, nested, low, next, band) else {
+    if !merge_below(plan, c, nested, low, next, band) {
         return false;
-    };
+    }
     let subbands = Subbands {
         level,
         low: held(plan.depth - 1, low, next),
         nested,
     };
-    put_level(&subbands, band, most, 0, samples, format)
+    put_level(&subbands, band, 0, samples, format)
 }
 
 /// The same, with the highest level in two halves that are made side by side, by join. The room is larger, and
@@ -395,13 +367,13 @@ pub fn inverse_output_joined<H: Threads>(
     let count = level.h * level.w;
     let (low, rest) = room.split_at_mut(count);
     let (next, bands) = rest.split_at_mut(count);
-    let Some(most) = merge_below(plan, c, nested, low, next, bands) else {
+    if !merge_below(plan, c, nested, low, next, bands) {
         return false;
-    };
+    }
     let subbands = Subbands {
         level,
         low: held(plan.depth - 1, low, next),
         nested,
     };
-    put_halves(rt, &subbands, bands, most, samples, format)
+    put_halves(rt, &subbands, bands, samples, format)
 }

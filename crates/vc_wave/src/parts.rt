@@ -24,6 +24,13 @@ pub(crate) struct Band {
     pub pairs: usize,
 }
 
+/// Pairs of a level's rows, a low and a high one each: from one on and before another.
+#[derive(Clone, Copy)]
+pub(crate) struct Pairs {
+    pub from: usize,
+    pub to: usize,
+}
+
 /// Rows that are put out: the first of them among those at hand, the row to which it goes, and how many there
 /// are.
 #[derive(Clone, Copy)]

@@ -4,13 +4,12 @@ use Rattle.vc_types.specs.Subbands.{padded_width, padded_height}
 use Rattle.vc_types.specs.TransformParameters.{parameters_of}
 use Rattle.vc_types.specs.Transforms.{lowest_height}
 use Rattle.vc_types.specs.Transforms.{levels_across}
-use Rattle.vc_wave.specs.Parts.{with_low, AreAtMost}
+use Rattle.vc_wave.specs.Parts.{with_low}
 use Rattle.vc_wave.specs.Planes.{plane_of}
-use Rattle.vc_wave.proofs.LowCells.{corner_made, corner_at_most, front_put}
+use Rattle.vc_wave.proofs.LowCells.{corner_made, front_put}
 use Rattle.vc_wave.proofs.TransformLocality.{less}
 use Rattle.vc_wave.proofs.TurnedLevels.{sides_small}
 use Rattle.vc_wave.proofs.lower.lowest_rows.Goals as goal
-use Rattle.vc_wave.proofs.lower.lowest_rows.Goals.{In_ok-after}
 
 pub side_at-width-requires-clause-fits : goal.side_at-width-requires-clause-fits
 side_at-width-requires-clause-fits c = search (rules, sides_small)
@@ -36,48 +35,27 @@ corner_across-requires-clause-down c =
 pub corner_across-requires-clause-line : goal.corner_across-requires-clause-line
 corner_across-requires-clause-line c = rw (c.side_at-width.ensures, c.lowest-w.ensures.width) c.requires.line
 
-room : (c : In_ok-after) → c.lowest-w.result.1 * c.side_at-width.result ≤ length c.args.low.now
-room c = rw (c.side_at-width.ensures, c.lowest-w.ensures.width, c.lowest-w.ensures.height) c.requires.low
-
 -- by the names of the contract
-module _ (width w h stride lowest highest pitch e most : ℕ) (cells rest nested : List ℤ) (is : width ≡ w * 2 ^ e)
-    (across : w ≡ lowest) (down : h ≡ highest) (apart : stride ≡ pitch) where
-  named : (wavelet : ℕ) → with_low width h stride (cells ++ rest) nested
-      ≡ levels_across wavelet e w h (plane_of stride nested)
-      → with_low (lowest * 2 ^ e) highest pitch (cells ++ rest) nested
-      ≡ levels_across wavelet e lowest highest (plane_of pitch nested)
-  named wavelet made = rw (is, across, down, apart) at made
+named : (width w h stride lowest highest pitch e wavelet : ℕ) (cells rest nested : List ℤ) → width ≡ w * 2 ^ e
+    → w ≡ lowest → h ≡ highest → stride ≡ pitch
+    → with_low width h stride (cells ++ rest) nested ≡ levels_across wavelet e w h (plane_of stride nested)
+    → with_low (lowest * 2 ^ e) highest pitch (cells ++ rest) nested
+    ≡ levels_across wavelet e lowest highest (plane_of pitch nested)
+named width w h stride lowest highest pitch e wavelet cells rest nested is across down apart made =
+    rw (is, across, down, apart) at made
 
-  named_at_most : AreAtMost most (with_low width h stride (cells ++ rest) nested)
-      → AreAtMost most (with_low (lowest * 2 ^ e) highest pitch (cells ++ rest) nested)
-  named_at_most small = rw (is, across, down, apart) at small
-
-pub returns-clause-made : goal.returns-clause-made
-returns-clause-made c =
+pub returns : goal.returns
+returns c = λ whole.
     let low = c.lowest-w in
     let cells = c.corner_across.new.cells in
     let count = low.result.1 * c.side_at-width.result in
     let rest = drop count c.args.low.now in
-    let whole = room c in
+    let room : count ≤ length c.args.low.now =
+    rw (c.side_at-width.ensures, low.ensures.width, low.ensures.height) c.requires.low in
     let made = corner_made low.result.1 c.padded-stride.result.0 c.side_at-width.result (cells ++ rest) cells c.args.nested.now
-    (λ i h. front_put cells rest i (omega (arith, h, c.corner_across.auto.cells, length-take count c.args.low.now, whole)))
+    (λ i h. front_put cells rest i (omega (arith, h, c.corner_across.auto.cells, length-take count c.args.low.now, room)))
     c.args.plan.now.wavelet_ho c.args.plan.now.depth_ho low.result.0 c.side_at-width.ensures
-    (rw c.in_ok-after.was at c.corner_across.ensures.made) in
+    (c.corner_across.ensures whole) in
     named c.side_at-width.result low.result.0 low.result.1 c.padded-stride.result.0 _ _ _
-    c.args.plan.now.depth_ho c.args.most cells rest c.args.nested.now c.side_at-width.ensures low.ensures.width
-    low.ensures.height c.padded-stride.ensures.width c.args.plan.now.wavelet_ho made
-
-pub returns-clause-within : goal.returns-clause-within
-returns-clause-within c =
-    let low = c.lowest-w in
-    let cells = c.corner_across.new.cells in
-    let count = low.result.1 * c.side_at-width.result in
-    let rest = drop count c.args.low.now in
-    let whole = room c in
-    let small = rw c.in_ok-after.was at c.corner_across.ensures.within in
-    let made = corner_at_most low.result.1 c.padded-stride.result.0 c.side_at-width.result (cells ++ rest) cells c.args.nested.now
-    (λ i h. front_put cells rest i (omega (arith, h, c.corner_across.auto.cells, length-take count c.args.low.now, whole)))
-    c.args.most c.in_ok-after.after small.0 small.1 c.requires.within in
-    named_at_most c.side_at-width.result low.result.0 low.result.1 c.padded-stride.result.0 _ _ _
-    c.args.plan.now.depth_ho c.in_ok-after.after cells rest c.args.nested.now c.side_at-width.ensures low.ensures.width
-    low.ensures.height c.padded-stride.ensures.width made
+    c.args.plan.now.depth_ho c.args.plan.now.wavelet_ho cells rest c.args.nested.now c.side_at-width.ensures
+    low.ensures.width low.ensures.height c.padded-stride.ensures.width made

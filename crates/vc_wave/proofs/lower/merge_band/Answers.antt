@@ -1,7 +1,7 @@
-use Rattle.std.proofs.Common.{◌+◌, ◌-◌, ◌*◌, ◌≤◌, ℤ, unsigned_abs, arith, sym, subst}
+use Rattle.std.proofs.Common.{◌+◌, ◌-◌, ◌*◌, ◌≤◌, arith}
 use Rattle.std.proofs.Math.Nat.{mul-le-mul_right}
 use Rattle.vc_wave.specs.Parts.{subbands_of}
-use Rattle.vc_wave.proofs.BandRows.{band_kept, band_small}
+use Rattle.vc_wave.proofs.BandRows.{band_kept}
 use Rattle.vc_wave.proofs.CarriedBounds.{has_bound}
 use Rattle.vc_wave.proofs.lower.merge_band.Goals as goal
 
@@ -22,22 +22,12 @@ keep_rows-requires-clause-to c =
     omega (arith, past, c.requires.out)
 
 pub keep_rows-requires-clause-bound : goal.keep_rows-requires-clause-bound
-keep_rows-requires-clause-bound c = has_bound (rw c.in_ok-after.was at c.synth_band.ensures.bound)
+keep_rows-requires-clause-bound c = has_bound (rw c.in-Some.is at c.synth_band.ensures.bound)
 
 pub returns-clause-made : goal.returns-clause-made
-returns-clause-made c = λ x y a begin end.
+returns-clause-made c = λ whole x y a begin end.
     let l = c.args.subbands.now.level in
     let band = c.args.band.now in
     band_kept l.wavelets.down l.wavelets.across l.w l.h band.from band.to band.first band.pairs
     (subbands_of c.args.subbands.now) c.synth_band.new.window c.requires.holds
-    (rw c.in_ok-after.was at c.synth_band.ensures.made) c.keep_rows.new.out c.keep_rows.ensures.on x y a begin end
-
-pub returns-clause-within : goal.returns-clause-within
-returns-clause-within c = λ x y a begin end.
-    let l = c.args.subbands.now.level in
-    let band = c.args.band.now in
-    subst (λ (z : ℤ). unsigned_abs z ≤ c.in_ok-after.after) (sym (returns-clause-made c x y a begin end))
-    (band_small l.wavelets.down l.wavelets.across l.w l.h band.from band.to band.first band.pairs
-    (subbands_of c.args.subbands.now) c.synth_band.new.window c.requires.holds
-    (rw c.in_ok-after.was at c.synth_band.ensures.made) c.in_ok-after.after l.some_columns
-    (rw c.in_ok-after.was at c.synth_band.ensures.bound) x y a begin end)
+    (rw c.in-Some.is at c.synth_band.ensures.made) c.keep_rows.new.out c.keep_rows.ensures.on x y a begin end

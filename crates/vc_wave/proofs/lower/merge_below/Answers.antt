@@ -5,8 +5,9 @@ use Rattle.vc_types.specs.declared.video.Component.{Component}
 use Rattle.vc_types.specs.Subbands.{padded_width, padded_height}
 use Rattle.vc_types.specs.TransformParameters.{Parameters, parameters_of}
 use Rattle.vc_types.specs.Transforms.{lowest_width, lowest_height}
-use Rattle.vc_wave.specs.Parts.{highest_width, pairs_held}
+use Rattle.vc_wave.specs.Parts.{pairs_held}
 use Rattle.vc_wave.specs.Planes.{HasRoom}
+use Rattle.vc_wave.specs.Sides.{highest_width}
 use Rattle.vc_wave.proofs.TurnedLevels.{all_rooms}
 use Rattle.vc_wave.proofs.lower.merge_below.Goals as goal
 
@@ -63,14 +64,8 @@ merge_levels-requires-clause-room c =
     mul-le-mul_left (2 * pairs_held p.wavelet) (omega arith) in
     rw (l.w, l.down, c.lowest_rows.auto.line) (omega (arith, all, c.requires.room))
 
-pub merge_levels-requires-clause-within : goal.merge_levels-requires-clause-within
-merge_levels-requires-clause-within c =
+pub returns : goal.returns
+returns c = λ whole.
     let l = c.levels_of-levels.ensures in
-    rw (l.w, l.h, l.pitch, c.padded-stride.ensures.width) (rw c.in_ok-most.was at c.lowest_rows.ensures.within)
-
-pub returns-clause-made : goal.returns-clause-made
-returns-clause-made c =
-    let p = parameters_of c.args.plan.now in
-    let l = c.levels_of-levels.ensures in
-    let lowest = rw c.in_ok-most.was at c.lowest_rows.ensures.made in
-    rw (l.w, l.h, l.pitch, l.down, l.across, c.padded-stride.ensures.width, lowest) at c.merge_levels.ensures.made
+    let lowest = c.lowest_rows.ensures c.if-not-lowest_rows.false in
+    rw (l.w, l.h, l.pitch, l.down, l.across, c.padded-stride.ensures.width, lowest) at (c.merge_levels.ensures whole)

@@ -2,7 +2,7 @@ use Rattle.std.proofs.Common.{ℕ, ◌<◌, ◌≡◌, ◌+◌, ◌*◌, ◌^◌
 use Rattle.std.proofs.Math.Nat.{mul-le-mul, mul-le-mul_left, mul-le-mul_right}
 use Rattle.vc_wave.specs.Parts.{with_low, held, pairs_held}
 use Rattle.vc_wave.proofs.Levels.{level_fits}
-use Rattle.vc_wave.proofs.LowCells.{first_below, next_below, bound_first, bound_below, held_even}
+use Rattle.vc_wave.proofs.LowCells.{first_below, next_below, held_even}
 use Rattle.vc_wave.proofs.lower.merge_levels.Goals as goal
 
 pub loop-n-init : goal.loop-n-init
@@ -10,13 +10,8 @@ loop-n-init c =
     let l = c.args.levels in
     let first = held_even 0 c.args.first.now c.args.second.now refl in
     let cells = with_low l.nesting.w l.nesting.h l.pitch c.args.first.now c.args.nested.now in
-    record {
-      made = rw first (first_below l.wavelets.down l.wavelets.across l.nesting.w l.nesting.h l.pitch cells
-          c.args.nested.now c.args.first.now refl);
-      within = rw first (bound_first l.nesting.w l.nesting.h l.pitch c.args.most c.args.first.now
-          c.args.nested.now c.requires.within);
-      small = c.requires.most;
-    }
+    rw first (first_below l.wavelets.down l.wavelets.across l.nesting.w l.nesting.h l.pitch cells
+    c.args.nested.now c.args.first.now refl)
 
 pub level-level-requires : goal.level-level-requires
 level-level-requires c = omega (arith, c.loop-n-test.true, c.requires.count)
@@ -65,10 +60,6 @@ merge_turn-requires-clause-room c =
     rw (c.level-level.ensures.wavelets, c.level-level.ensures.w, c.loop-n.auto.room)
     (omega (arith, all, c.requires.room))
 
-pub merge_turn-requires-clause-within : goal.merge_turn-requires-clause-within
-merge_turn-requires-clause-within c =
-    rw (c.level-level.ensures.w, c.level-level.ensures.h, c.level-level.ensures.pitch) c.loop-n.invariant.within
-
 pub loop-n-preserved : goal.loop-n-preserved
 loop-n-preserved c =
     let l = c.args.levels in
@@ -77,20 +68,9 @@ loop-n-preserved c =
     let cells = with_low l.nesting.w l.nesting.h l.pitch c.args.first.now c.args.nested.now in
     let before = held n c.loop-n.first c.loop-n.second in
     let after = held (n + 1) c.merge_turn.new.first c.merge_turn.new.second in
-    let made = rw (c.in_ok-bound.was, level.wavelets, level.pitch) at c.merge_turn.ensures.made in
-    let within = rw (c.in_ok-bound.was, level.pitch) at c.merge_turn.ensures.within in
-    record {
-      made = next_below l.wavelets.down l.wavelets.across l.nesting.w l.nesting.h l.pitch cells c.args.nested.now n
-          before after c.level-level.result.w c.level-level.result.h level.w level.h c.loop-n.invariant.made made;
-      within = bound_below l.nesting.w l.nesting.h l.pitch n c.in_ok-bound.bound c.level-level.result.w
-          c.level-level.result.h after c.args.nested.now level.w level.h within;
-      small = rw c.in_ok-bound.was at c.merge_turn.ensures.small;
-    }
+    let made = rw (level.wavelets, level.pitch) at (c.merge_turn.ensures c.if-not-merge_turn.false) in
+    next_below l.wavelets.down l.wavelets.across l.nesting.w l.nesting.h l.pitch cells c.args.nested.now n
+    before after c.level-level.result.w c.level-level.result.h level.w level.h c.loop-n.invariant made
 
-pub returns-clause-made : goal.returns-clause-made
-returns-clause-made c =
-    (let end : c.loop-n.n ≡ c.args.count = omega arith in rw end at c.loop-n.invariant.made)
-
-pub returns-clause-within : goal.returns-clause-within
-returns-clause-within c =
-    (let end : c.loop-n.n ≡ c.args.count = omega arith in rw end at c.loop-n.invariant.within)
+pub returns : goal.returns
+returns c = λ whole. (let end : c.loop-n.n ≡ c.args.count = omega arith in rw end at c.loop-n.invariant)

@@ -1,16 +1,9 @@
-use Rattle.std.proofs.Common.{◌^◌, ◌*◌, ◌<◌}
-use Rattle.vc_wave.specs.Parts.{with_low, AreAtMost, held}
+use Rattle.vc_wave.specs.Parts.{with_low, held}
 use Rattle.vc_wave.proofs.LowCells.{AreBelowLevel}
 use Rattle.vc_wave.proofs.lower.merge_levels.Given as goal
 
 abbrev pub invariant-loop-n : goal.invariant-loop-n
-invariant-loop-n l = record {
-  made : AreBelowLevel l.levels.wavelets.down l.levels.wavelets.across l.levels.nesting.w l.levels.nesting.h
-      l.levels.pitch
-      (with_low l.levels.nesting.w l.levels.nesting.h l.levels.pitch l.initial.first l.nested) l.nested l.n
-      (held l.n l.first l.second);
-  within : AreAtMost l.bound
-      (with_low (l.levels.nesting.w * 2 ^ l.n) (l.levels.nesting.h * 2 ^ l.n) l.levels.pitch
-      (held l.n l.first l.second) l.nested);
-  small : l.bound < 2 ^ 31;
-}
+invariant-loop-n l = AreBelowLevel l.levels.wavelets.down l.levels.wavelets.across l.levels.nesting.w
+    l.levels.nesting.h l.levels.pitch
+    (with_low l.levels.nesting.w l.levels.nesting.h l.levels.pitch l.initial.first l.nested) l.nested l.n
+    (held l.n l.first l.second)

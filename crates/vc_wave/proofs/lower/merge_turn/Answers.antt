@@ -2,14 +2,6 @@ use Rattle.std.proofs.Common.{◌+◌, arith}
 use Rattle.vc_wave.proofs.LowCells.{held_even, held_odd}
 use Rattle.vc_wave.proofs.lower.merge_turn.Goals as goal
 
-pub merge_level-requires-clause-within : goal.merge_level-requires-clause-within
-merge_level-requires-clause-within c =
-    rw (held_even c.args.n c.args.first.now c.args.second.now (omega arith)) at c.requires.within
-
-pub merge_level-requires-else-n-eq0-clause-within : goal.merge_level-requires-else-n-eq0-clause-within
-merge_level-requires-else-n-eq0-clause-within c =
-    rw (held_odd c.args.n c.args.first.now c.args.second.now (omega arith)) at c.requires.within
-
 pub returns-then-n-eq0 : goal.returns-then-n-eq0
 returns-then-n-eq0 c =
     rw (

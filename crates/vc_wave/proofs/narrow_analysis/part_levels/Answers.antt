@@ -1,19 +1,20 @@
-use Rattle.std.proofs.Common.{◌≡◌, ◌+◌, ◌-◌, ◌*◌, ◌^◌, length, arith, refl, sym}
+use Rattle.std.proofs.Common.{◌≡◌, ◌+◌, ◌-◌, ◌*◌, ◌^◌, length, arith, ap, refl, sym, ◌∙◌}
 use Rattle.vc_wave.specs.ForwardBounds.{parted_level_bound}
+use Rattle.vc_wave.specs.NarrowBounds.{bound_over}
 use Rattle.vc_wave.specs.Planes.{plane_of}
 use Rattle.vc_wave.specs.Remade.{parted_in_turn}
 use Rattle.vc_wave.proofs.CarriedBounds.{bound_zero, one_more, reached_at, parted_at_most, made_within}
 use Rattle.vc_wave.proofs.Levels.{level_some}
-use Rattle.vc_wave.proofs.TurnedLevels.{pitch_fits, parted_room, first_parted, next_parted, last_parted}
+use Rattle.vc_wave.proofs.TurnedLevels.{pitch_fits, parted_room, next_parted, last_parted}
 use Rattle.vc_wave.proofs.narrow_analysis.part_levels.Goals as goal
 
 pub loop-n-init : goal.loop-n-init
 loop-n-init c =
-    let l = c.args.levels in
     record {
-      made = first_parted l.wavelets.down l.nesting.levels l.nesting.w l.nesting.h l.pitch _ c.args.cells.now
-          refl;
-      small = λ m b first e i. (let same = bound_zero (parted_level_bound l.wavelets.down) m b e in
+      some = omega arith;
+      made = refl;
+      small = λ m b first e i.
+          (let same = bound_zero (parted_level_bound c.args.levels.wavelets.down) m b e in
           rw (sym same) (first i));
     }
 
@@ -39,8 +40,10 @@ part_level-requires-clause-bound c =
     let level = c.level.ensures in
     let carry = parted_level_bound l.wavelets.down in
     let b = c.requires.bound in
-    let r = reached_at carry l.nesting.levels (c.loop-n.n + 1) b.most b.after (omega arith) b.fits in
-    let m = one_more carry c.loop-n.n b.most r.bound r.is in
+    let n = c.loop-n.n in
+    let r = reached_at carry (l.nesting.levels - 1) n b.most b.after (omega (arith, c.loop-n-test.true)) b.fits in
+    let up : n - 1 + 1 ≡ n = omega (arith, c.loop-n.invariant.some) in
+    let m = one_more carry (n - 1) b.most r.bound (ap (λ k. bound_over carry k b.most) up ∙ r.is) in
     rw level.wavelets
     (record {
       most = m.before;
@@ -67,13 +70,16 @@ loop-n-preserved c =
     ≡ parted_in_turn l.wavelets.down w h (plane_of pitch c.loop-n.cells) =
     rw (level.wavelets, level.pitch, level.w, level.h) at c.part_level.ensures in
     record {
+      some = omega arith;
       made =
           next_parted l.wavelets.down l.nesting.levels l.nesting.w l.nesting.h l.pitch _ n c.loop-n.cells
           c.part_level.new.cells
           c.loop-n-test.true c.requires.room.across c.loop-n.invariant.made pitch w h c.side_at-pitch.ensures
           refl refl made;
       small = λ m b first e.
-          (let o = one_more (parted_level_bound l.wavelets.down) n m b e in
+          (let carry = parted_level_bound l.wavelets.down in
+          let up : n - 1 + 1 ≡ n + 1 - 1 = omega (arith, c.loop-n.invariant.some) in
+          let o = one_more carry (n - 1) m b (ap (λ k. bound_over carry k m) up ∙ e) in
           made_within pitch o.before b
           (parted_in_turn l.wavelets.down w h) c.loop-n.cells c.part_level.new.cells
           (omega (arith, wide, c.side_at-pitch.ensures, room.across))
@@ -86,5 +92,5 @@ pub returns : goal.returns
 returns c =
     let l = c.args.levels in
     last_parted l.wavelets.down l.nesting.levels l.nesting.w l.nesting.h l.pitch _ c.loop-n.n c.loop-n.cells
-    (omega arith)
+    (omega (arith, c.requires.some))
     c.loop-n.invariant.made

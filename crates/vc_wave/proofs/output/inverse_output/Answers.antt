@@ -46,17 +46,12 @@ put_level-requires-clause-height c =
       c.highest-level.ensures.h,
     )
 
-pub put_level-requires-clause-within : goal.put_level-requires-clause-within
-put_level-requires-clause-within c =
-    let level = c.highest-level.ensures in
-    rw (level.w, level.h, level.pitch, c.held.ensures) (rw c.in-Some.is at c.merge_below.ensures.within)
-
 pub returns : goal.returns
 returns c = λ whole x y a lt.
     let p = parameters_of c.args.plan.now in
     let level = c.highest-level.ensures in
     let made = highest_made p c.args.c (omega arith) _
-    (plane_of (padded_width p c.args.c) c.args.nested.now) (rw c.in-Some.is at c.merge_below.ensures.made) in
+    (plane_of (padded_width p c.args.c) c.args.nested.now) (c.merge_below.ensures c.if-not-merge_below.false) in
     let row : 2 * 0 + y ≡ y = omega arith in
     (rw (level.down, level.across, level.w, level.h, level.pitch, c.held.ensures, row) at
     (c.put_level.ensures whole x y a lt))

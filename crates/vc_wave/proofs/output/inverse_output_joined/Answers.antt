@@ -46,17 +46,12 @@ put_halves-requires-clause-height g c =
       c.highest-level.ensures.h,
     )
 
-pub put_halves-requires-clause-within : goal.put_halves-requires-clause-within
-put_halves-requires-clause-within g c =
-    let level = c.highest-level.ensures in
-    rw (level.w, level.h, level.pitch, c.held.ensures) (rw c.in-Some.is at c.merge_below.ensures.within)
-
 pub returns : goal.returns
 returns g c = λ whole x y a lt.
     let p = parameters_of c.args.plan.now in
     let level = c.highest-level.ensures in
     let made = highest_made p c.args.c (omega arith) _
-    (plane_of (padded_width p c.args.c) c.args.nested.now) (rw c.in-Some.is at c.merge_below.ensures.made) in
+    (plane_of (padded_width p c.args.c) c.args.nested.now) (c.merge_below.ensures c.if-not-merge_below.false) in
     (rw (level.down, level.across, level.w, level.h, level.pitch, c.held.ensures) at
     (c.put_halves.ensures whole x y a lt))
     ∙ ap (λ (f : Cells). output_sample c.args.format.depth (f x y)) made

@@ -17,26 +17,11 @@ join_mut-first-requires-after_bounds g c κs within =
     omega (arith, held, c.split_at_mut-front.ensures.back_len, r.room) in
     let lower = lower_rows format.rows (format.rows / 4) format.columns (length c.split_at_mut-top.result.1.now)
     (omega (arith, c.split_at_mut-top.ensures.back_len, r.samples)) (omega arith) in (
-      λ _ _ _ _ _ _ _ _ _ _. (
+      λ _ _ _ _ _ _ _ _ _. (
         front,
-        (
-          r.most,
-          (
-            r.within,
-            (
-              r.depth,
-              (
-                r.width,
-                (
-                  omega (arith, r.height),
-                  c.split_at_mut-top.ensures.front_len,
-                ),
-              ),
-            ),
-          ),
-        ),
+        (r.depth, (r.width, (omega (arith, r.height), c.split_at_mut-top.ensures.front_len))),
       ),
-      λ _ _ _ _ _ _ _ _ _ _ _. (back, (r.most, (r.within, (r.depth, (r.width, (omega (arith, r.height), lower)))))),
+      λ _ _ _ _ _ _ _ _ _ _. (back, (r.depth, (r.width, (omega (arith, r.height), lower)))),
     )
 
 pub returns-then-first : goal.returns-then-first
@@ -53,5 +38,5 @@ returns-then-first g c =
     let lower : c.join_mut-first.result.1 ≡ true → (x y : ℕ) → x < columns → y < format.rows - 2 * pairs
     → slice_index_or c.bottom-1.given.0 (y * columns + x) 0 ≡ value x (2 * pairs + y) = search rules in
     let long : length c.top-1.given.0 ≡ 2 * pairs * columns = search rules in
-    λ second. halves_joined columns pairs format.rows c.top-1.given.0 c.bottom-1.given.0 value long
+    λ second. halves_joined 0 columns pairs format.rows c.top-1.given.0 c.bottom-1.given.0 value long
     (upper c.if-first.true) (lower second)

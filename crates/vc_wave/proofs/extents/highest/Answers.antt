@@ -1,7 +1,7 @@
 use Rattle.std.proofs.Common.{◌-◌, ◌*◌, ◌^◌, arith, ap, ◌∙◌}
 use Rattle.vc_types.specs.TransformParameters.{parameters_of}
 use Rattle.vc_wave.proofs.HighestLevel.{whole_width, whole_height}
-use Rattle.vc_wave.proofs.output.highest.Goals as goal
+use Rattle.vc_wave.proofs.extents.highest.Goals as goal
 
 pub returns : goal.returns
 returns c =
