@@ -101,7 +101,7 @@ sum_falls (suc q) (x ∷ xs) = omega (arith, sum_falls q xs)
 
 -- ---- the bits of a code
 
-one_step : (n : ℕ) → n < 2 → code_steps 1 n ≡ 0
+pub one_step : (n : ℕ) → n < 2 → code_steps 1 n ≡ 0
 unfolding code_steps
 one_step n small = rw (lt-leb 2 n small) refl
 
@@ -201,7 +201,7 @@ no_steps magnitude q sum within none = omega (arith, steps_none (4 * magnitude /
 
 -- ---- a block
 
-abs_quantised : (z : ℤ) (q : ℕ) → unsigned_abs (quantised z q) ≡ 4 * unsigned_abs z / quant_factor q
+pub abs_quantised : (z : ℤ) (q : ℕ) → unsigned_abs (quantised z q) ≡ 4 * unsigned_abs z / quant_factor q
 unfolding quantised
 abs_quantised (pos n) q = refl
 abs_quantised (negsuc n) q = omega (arith, ints)

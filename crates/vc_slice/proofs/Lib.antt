@@ -6,6 +6,7 @@ pub mod Dequantising
 pub mod EncodedSlices
 pub mod PaddedBlocks
 pub mod FallSums
+pub mod RunLengths
 pub mod NarrowRuns
 pub mod RunsInPlace
 pub mod ColourParts

@@ -8,3 +8,4 @@ pub mod Falls
 pub mod Numbers
 pub mod OneBlock
 pub mod Listed
+pub mod Thresholds

@@ -2,8 +2,8 @@ ghost use Rattle.std.specs.Prelude.{◌≡◌, ◌++◌, ◌∷◌, [], ◌*◌,
 ghost use Rattle.std.specs.Prelude.{length, replicate, IfOk, OnOk};
 ghost use Rattle.vc_types.specs.declared.video.Component.TheVariants.{Y, C1, C2};
 ghost use Rattle.vc_types.specs.Bits.{bits_of};
+ghost use Rattle.vc_slice.specs.Bands.{AreCoefficients, codes_at};
 ghost use Rattle.vc_slice.specs.Inside.{padded_block, units_for, up_to_bytes};
-ghost use Rattle.vc_types.specs.OfPlan.{AreSliceCoefficients, component_bits, slice_count};
 
 use crate::bands::{SliceBands, SliceParts};
 use crate::coeffs::SliceCoeffs;
@@ -21,23 +21,20 @@ pub(crate) struct Blocks {
 
 pub(crate) fn blocks_of(
     alloc: Global,
-    plan: &Plan,
-    index: u32,
+    parts: &SliceParts,
     coeffs: &SliceCoeffs,
     q: u8,
 ) -> Result<Blocks, NoMemory>
-    requires slice { index < slice_count plan.now }
-    requires coefficients { AreSliceCoefficients plan.now index coeffs.now }
+    requires coefficients { AreCoefficients parts.now coeffs.now }
     requires index { q ≤ 127 }
     ensures y { IfOk result (λ blocks. bits_of blocks.y.items
-        ≡ up_to_bytes (component_bits plan.now index q coeffs.now Y)) }
+        ≡ up_to_bytes (codes_at parts.now q coeffs.now Y)) }
     ensures c1 { IfOk result (λ blocks. bits_of blocks.c1.items
-        ≡ up_to_bytes (component_bits plan.now index q coeffs.now C1)) }
+        ≡ up_to_bytes (codes_at parts.now q coeffs.now C1)) }
     ensures c2 { IfOk result (λ blocks. bits_of blocks.c2.items
-        ≡ up_to_bytes (component_bits plan.now index q coeffs.now C2)) }
+        ≡ up_to_bytes (codes_at parts.now q coeffs.now C2)) }
 {
-    let parts = SliceParts::new(plan, index);
-    let bands = SliceBands::new(&parts, q);
+    let bands = SliceBands::new(parts, q);
     let y = codes_of(alloc, &bands, Component::Y, coeffs)?;
     let c1 = codes_of(alloc, &bands, Component::C1, coeffs)?;
     let c2 = codes_of(alloc, &bands, Component::C2, coeffs)?;

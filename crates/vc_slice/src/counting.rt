@@ -9,9 +9,14 @@ ghost use Rattle.vc_slice.specs.Bands.{AreCoefficients, component_codes};
 
 use crate::bands::SliceBands;
 use crate::coeffs::{CoefficientList, SliceCoeffs};
+use crate::narrow::greatest;
+use crate::thresholds::{more_bits, used};
 use vc_geometry::bands as band_count;
-use vc_quant::Quantiser;
+use vc_quant::{Quantiser, factor};
 use vc_types::Component;
+
+// Runs of fewer coefficients are counted one by one, which is faster for them.
+const LONG: usize = 16;
 
 // The codes of a block's numbers, counted: the bits up to the last number that isn't 0, and the zeros
 // behind it.
@@ -67,6 +72,52 @@ pub(crate) fn block_len(bands: &SliceBands, c: Component, coeffs: &SliceCoeffs) 
 
 // Counts the next numbers of a block.
 fn count_subband(counted: &mut Counted, coefficients: &CoefficientList<'_>, quantiser: &Quantiser)
+    requires small { list_any is_large (listed coefficients.now) ≡ false }
+    requires few { length (listed coefficients.now) ≤ 2 ^ 26 }
+    requires index { quantiser.now.index ≤ 127 }
+    requires room { counted.old.bits + counted.old.zeros
+        + 128 * length (listed coefficients.now) < 2 ^ 61 }
+    ensures bits { (more : List ℤ)
+        → counted.new.bits + length (codes_behind counted.new.zeros more)
+        ≡ counted.old.bits + length (codes_behind counted.old.zeros
+        (subband_numbers quantiser.now.index (listed coefficients.now) ++ more)) }
+    ensures room { counted.new.bits + counted.new.zeros
+        ≤ counted.old.bits + counted.old.zeros + 128 * length (listed coefficients.now) }
+{
+    match coefficients {
+        CoefficientList::Narrow(numbers) if numbers.len() >= LONG => {
+            count_run(counted, numbers, quantiser.index);
+        }
+        _ => count_each(counted, coefficients, quantiser),
+    }
+}
+
+// The same of coefficients in 32 bits, all at once.
+fn count_run(counted: &mut Counted, coefficients: &[i32], index: u8)
+    requires small { list_any is_large coefficients.now ≡ false }
+    requires few { length coefficients.now ≤ 2 ^ 26 }
+    requires index { index ≤ 127 }
+    requires room { counted.old.bits + counted.old.zeros + 128 * length coefficients.now < 2 ^ 61 }
+    ensures bits { (more : List ℤ)
+        → counted.new.bits + length (codes_behind counted.new.zeros more)
+        ≡ counted.old.bits + length (codes_behind counted.old.zeros
+        (subband_numbers index coefficients.now ++ more)) }
+    ensures room { counted.new.bits + counted.new.zeros
+        ≤ counted.old.bits + counted.old.zeros + 128 * length coefficients.now }
+{
+    let factor = factor(index);
+    let most = greatest(coefficients);
+    let used = used(coefficients, most, factor);
+    if used == 0 {
+        counted.zeros += coefficients.len() as u64;
+    } else {
+        counted.bits += counted.zeros + used as u64 + more_bits(coefficients, most, factor);
+        counted.zeros = (coefficients.len() - used) as u64;
+    }
+}
+
+// The same of any coefficients, one after another.
+fn count_each(counted: &mut Counted, coefficients: &CoefficientList<'_>, quantiser: &Quantiser)
     requires small { list_any is_large (listed coefficients.now) ≡ false }
     requires room { counted.old.bits + counted.old.zeros
         + 128 * length (listed coefficients.now) < 2 ^ 61 }

@@ -3,9 +3,9 @@ ghost use Rattle.std.specs.List.{range_with_len};
 ghost use Rattle.vc_types.specs.declared.video.Component.TheVariants.{Y, C1, C2};
 ghost use Rattle.vc_types.specs.Bits.{bits_of};
 ghost use Rattle.vc_types.specs.Encoding.{block_units};
-ghost use Rattle.vc_slice.specs.Bands.{AreCoefficients};
+ghost use Rattle.vc_slice.specs.Bands.{AreCoefficients, codes_at};
 ghost use Rattle.vc_slice.specs.OfPlan.{IsRefusal};
-ghost use Rattle.vc_types.specs.OfPlan.{AreSliceCoefficients, component_bits, encoded_length};
+ghost use Rattle.vc_types.specs.OfPlan.{AreSliceCoefficients, encoded_length};
 ghost use Rattle.vc_types.specs.OfPlan.{encoded_slice, is_too_long, slice_count};
 
 use crate::bands::{SliceBands, SliceParts};
@@ -32,7 +32,16 @@ pub fn encoded_len(plan: &Plan, index: u32, coeffs: &SliceCoeffs, q: u8) -> u64
     requires index { q ≤ 127 }
     ensures { result ≡ encoded_length plan.now index q coeffs.now }
 {
-    slice_len(plan, block_lens(plan, index, coeffs, q))
+    len_of_parts(&SliceParts::new(plan, index), coeffs, q)
+}
+
+/// The same of a slice whose parts are known.
+pub fn len_of_parts(parts: &SliceParts, coeffs: &SliceCoeffs, q: u8) -> u64
+    requires coefficients { AreCoefficients parts.now coeffs.now }
+    requires index { q ≤ 127 }
+    ensures { result ≡ encoded_length parts.now.plan parts.now.slice q coeffs.now }
+{
+    slice_len(&parts.plan, block_lens(parts, coeffs, q))
 }
 
 /// How many bytes a slice has, prefix bytes included, at each of the quantisation indices from 0 to 127:
@@ -93,12 +102,33 @@ pub fn encode(
     ensures fits { OnOk result (is_too_long plan.now index q coeffs.now ≡ false) }
     ensures too_long { IfErr result (λ e. IsRefusal plan.now index q coeffs.now e) }
 {
-    let Ok(blocks) = blocks_of(alloc, plan, index, coeffs, q) else {
+    encode_parts(alloc, &SliceParts::new(plan, index), coeffs, q)
+}
+
+/// The same of a slice whose parts are known.
+pub fn encode_parts(
+    alloc: Global,
+    parts: &SliceParts,
+    coeffs: &SliceCoeffs,
+    q: u8,
+) -> Result<Vec<u8>, EncodeRefusal>
+    requires coefficients { AreCoefficients parts.now coeffs.now }
+    requires index { q ≤ 127 }
+    ensures value { IfOk result
+        (λ bytes. bits_of bytes.items ≡ encoded_slice parts.now.plan parts.now.slice q coeffs.now) }
+    ensures len { IfOk result
+        (λ bytes. length bytes.items ≡ encoded_length parts.now.plan parts.now.slice q coeffs.now) }
+    ensures fits { OnOk result (is_too_long parts.now.plan parts.now.slice q coeffs.now ≡ false) }
+    ensures too_long { IfErr result
+        (λ e. IsRefusal parts.now.plan parts.now.slice q coeffs.now e) }
+{
+    let plan = &parts.plan;
+    let Ok(blocks) = blocks_of(alloc, parts, coeffs, q) else {
         return Err(EncodeRefusal::NoMemory);
     };
     if are_too_long(plan, &blocks) {
         return Err(EncodeRefusal::TooLong {
-            bytes: encoded_len(plan, index, coeffs, q),
+            bytes: len_of_parts(parts, coeffs, q),
         });
     }
     match joined(alloc, plan, q, &blocks) {
@@ -115,17 +145,15 @@ struct BlockLens {
     c2: u64,
 }
 
-fn block_lens(plan: &Plan, index: u32, coeffs: &SliceCoeffs, q: u8) -> BlockLens
-    requires slice { index < slice_count plan.now }
-    requires coefficients { AreSliceCoefficients plan.now index coeffs.now }
+fn block_lens(parts: &SliceParts, coeffs: &SliceCoeffs, q: u8) -> BlockLens
+    requires coefficients { AreCoefficients parts.now coeffs.now }
     requires index { q ≤ 127 }
-    ensures y { result.y ≡ length (component_bits plan.now index q coeffs.now Y) }
-    ensures c1 { result.c1 ≡ length (component_bits plan.now index q coeffs.now C1) }
-    ensures c2 { result.c2 ≡ length (component_bits plan.now index q coeffs.now C2) }
+    ensures y { result.y ≡ length (codes_at parts.now q coeffs.now Y) }
+    ensures c1 { result.c1 ≡ length (codes_at parts.now q coeffs.now C1) }
+    ensures c2 { result.c2 ≡ length (codes_at parts.now q coeffs.now C2) }
     ensures range { (result.y < 2 ^ 40) × (result.c1 < 2 ^ 40) × (result.c2 < 2 ^ 40) }
 {
-    let parts = SliceParts::new(plan, index);
-    let bands = SliceBands::new(&parts, q);
+    let bands = SliceBands::new(parts, q);
     BlockLens {
         y: block_len(&bands, Component::Y, coeffs),
         c1: block_len(&bands, Component::C1, coeffs),

@@ -19,6 +19,7 @@ mod narrow_slice;
 mod no_places;
 mod places;
 mod subband;
+mod thresholds;
 mod wide_slice;
 mod writing;
 
@@ -27,7 +28,7 @@ pub use coded::{CodedSlice, coded_slice, cut};
 pub use coeffs::{CoefficientList, SliceCoeffs};
 pub use decoding::decode;
 pub use done::SliceDone;
-pub use encoding::{EncodeRefusal, encode, encoded_len, encoded_lens};
+pub use encoding::{EncodeRefusal, encode, encode_parts, encoded_len, encoded_lens, len_of_parts};
 pub use job::SliceJob;
 pub use laws::slices_decode_apart;
 pub use narrow::{TooWide, read_numbers};

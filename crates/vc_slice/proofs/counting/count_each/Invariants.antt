@@ -1,7 +1,7 @@
 use Rattle.std.proofs.Common.{◌≡◌, ◌++◌, ◌+◌, ◌*◌, ◌≤◌, ℤ, List, length, drop}
 use Rattle.vc_slice.specs.Listed.{listed}
 use Rattle.vc_slice.specs.Inside.{subband_numbers, codes_behind}
-use Rattle.vc_slice.proofs.counting.count_subband.Given as goal
+use Rattle.vc_slice.proofs.counting.count_each.Given as goal
 
 abbrev pub invariant-loop-place : goal.invariant-loop-place
 invariant-loop-place l = record {
