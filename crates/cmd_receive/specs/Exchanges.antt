@@ -16,8 +16,8 @@ pub record LoopState : Type 0 where
   pub told : WireTold
   pub wire_faults : ℕ
 
-abbrev pub loop_state : {N O P : Type 0} → (N → WireTold) → (N → ℕ) → (O → Option (List ℕ))
-    → (O → ℕ) → (P → Option Told) → (P → ℕ) → LoopOutlet N O P → LoopState
+abbrev pub loop_state : {N H O P : Type 0} → (N → WireTold) → (N → ℕ) → (O → Option (List ℕ))
+    → (O → ℕ) → (P → Option Told) → (P → ℕ) → LoopOutlet N H O P → LoopState
 loop_state told wire_faults held faults asked bound x = record {
   playout = playout_state held faults asked bound x.playout;
   told = told x.inlet.wire.now;
@@ -25,7 +25,7 @@ loop_state told wire_faults held faults asked bound x = record {
 }
 
 -- it borrows the same wire, output and places
-abbrev pub LoopsAs : {N O P : Type 0} → LoopOutlet N O P → LoopOutlet N O P → Type 0
+abbrev pub LoopsAs : {N H O P : Type 0} → LoopOutlet N H O P → LoopOutlet N H O P → Type 0
 LoopsAs old new = (new.inlet.wire.ghost_name ≡ old.inlet.wire.ghost_name)
     × BorrowsAs old.playout new.playout
 

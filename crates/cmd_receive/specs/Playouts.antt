@@ -33,8 +33,8 @@ pub record PlayoutState : Type 0 where
   pub asked : Option Told
   pub bound : ℕ
 
-abbrev pub playout_state : {O P : Type 0} → (O → Option (List ℕ)) → (O → ℕ) → (P → Option Told)
-    → (P → ℕ) → Playout O P → PlayoutState
+abbrev pub playout_state : {H O P : Type 0} → (O → Option (List ℕ)) → (O → ℕ) → (P → Option Told)
+    → (P → ℕ) → Playout H O P → PlayoutState
 playout_state held faults told bound p = record {
   receiver = p.receiver.now;
   held = held p.output.now;
@@ -44,7 +44,7 @@ playout_state held faults told bound p = record {
 }
 
 -- it borrows the same output and the same places
-abbrev pub BorrowsAs : {O P : Type 0} → Playout O P → Playout O P → Type 0
+abbrev pub BorrowsAs : {H O P : Type 0} → Playout H O P → Playout H O P → Type 0
 BorrowsAs old new = (new.output.ghost_name ≡ old.output.ghost_name)
     × (new.places.ghost_name ≡ old.places.ghost_name)
 

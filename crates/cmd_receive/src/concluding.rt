@@ -5,12 +5,13 @@ ghost use Rattle.cmd_receive.specs.Playouts.{IsWell, playout_state};
 use crate::playout::Playout;
 use link_hearing::{RecordCounts, has_broken};
 use link_report::{Answer, Ending, Summary};
+use std::thread::Threads;
 use vc_ports::Sink;
 use vc_slice::Places;
 
 /// Ends the receiver's input, unless it broke off, and says what the command came to.
-pub(crate) fn conclude<O: Sink, P: Places>(
-    playout: &mut Playout<O, P>,
+pub(crate) fn conclude<H: Threads + Copy, O: Sink, P: Places>(
+    playout: &mut Playout<H, O, P>,
     heard: Result<(), Ending>,
 ) -> Answer
     requires well { IsWell (playout_state O.held O.faults P.told P.bound playout.old) }

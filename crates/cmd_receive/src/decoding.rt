@@ -7,19 +7,22 @@ ghost use Rattle.cmd_receive.specs.Playouts.{IsNew, IsWell, PlaysInput, playout_
 use crate::concluding::{conclude, with_records};
 use crate::playout::Playout;
 use link_hearing::{Heard, InputForm, hear_input};
-use link_receiver::Receiver;
+use link_receiver::{Receiver, threads_beside};
 use link_report::{Answer, Ending};
 use std::alloc::Global;
+use std::thread::Threads;
 use vc_ports::{Sink, Source};
 use vc_slice::{Hands, Places};
 
 /// Decodes a capture, or a pcap file: reads at most `packets` entries, or records, takes their datagrams with
 /// up to `window` pictures open (2 to 8), and writes the raw frames that they make. A frame is written as
 /// soon as its pictures are released. Each slice that a picture keeps is offered to `workers` workers; those
-/// that they don't decode in time are decoded here. If the input fails, ends within an entry or a record, or
-/// has a byte more than these entries, or if a pcap file has no head or a record that is too long, the frames
-/// of the datagrams received so far are still written.
-pub fn decode<S: Source, O: Sink, P: Hands>(
+/// that they don't decode in time are decoded here. With workers, each picture is also transformed in four
+/// parts side by side. If the input fails, ends within an entry or a record, or has a byte more than these
+/// entries, or if a pcap file has no head or a record that is too long, the frames of the datagrams received
+/// so far are still written.
+pub fn decode<H: Threads + Copy, S: Source, O: Sink, P: Hands>(
+    rt: H,
     alloc: Global,
     window: u8,
     workers: u32,
@@ -42,7 +45,7 @@ pub fn decode<S: Source, O: Sink, P: Hands>(
         workers,
         packets,
         form,
-        Receiver::new(alloc, window),
+        Receiver::new(alloc, threads_beside(rt, workers), window),
         input,
         output,
         hands,
@@ -52,7 +55,8 @@ pub fn decode<S: Source, O: Sink, P: Hands>(
 /// Unpacks a capture, or a pcap file: reads it as `decode` does, and writes the elementary stream of its
 /// first session. That is the session's sequence header, the pictures of the frames that `decode` would
 /// write of it, each in its own bytes, and an end of sequence; without pictures it is nothing.
-pub fn unpack<S: Source, O: Sink, P: Hands>(
+pub fn unpack<H: Threads + Copy, S: Source, O: Sink, P: Hands>(
+    rt: H,
     alloc: Global,
     window: u8,
     workers: u32,
@@ -75,7 +79,7 @@ pub fn unpack<S: Source, O: Sink, P: Hands>(
         workers,
         packets,
         form,
-        Receiver::units(alloc, window),
+        Receiver::units(alloc, threads_beside(rt, workers), window),
         input,
         output,
         hands,
@@ -83,12 +87,12 @@ pub fn unpack<S: Source, O: Sink, P: Hands>(
 }
 
 // Starts the workers, and has a new receiver take the datagrams of an input.
-fn take_input<S: Source, O: Sink, P: Hands>(
+fn take_input<H: Threads + Copy, S: Source, O: Sink, P: Hands>(
     alloc: Global,
     workers: u32,
     packets: u32,
     form: InputForm,
-    receiver: Receiver,
+    receiver: Receiver<H>,
     input: &mut S,
     output: &mut O,
     hands: &mut P,
@@ -111,12 +115,12 @@ fn take_input<S: Source, O: Sink, P: Hands>(
 }
 
 // Has a receiver that has heard nothing hear the datagrams of an input.
-fn play_input<S: Source, O: Sink, P: Places>(
+fn play_input<H: Threads + Copy, S: Source, O: Sink, P: Places>(
     alloc: Global,
     packets: u32,
     form: InputForm,
     input: &mut S,
-    playout: &mut Playout<O, P>,
+    playout: &mut Playout<H, O, P>,
 ) -> Heard
     requires new { IsNew playout.old.receiver.now }
     ensures borrows_output { playout.new.output.ghost_name ≡ playout.old.output.ghost_name }

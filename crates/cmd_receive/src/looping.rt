@@ -12,7 +12,7 @@ use cmd_send::{Totals, send_frames};
 use link_hearing::has_broken;
 use link_model::Tally;
 use link_outside::Inbox;
-use link_receiver::Receiver;
+use link_receiver::{Receiver, threads_beside};
 use link_report::{Ending, Summary};
 use std::alloc::Global;
 use std::thread::Threads;
@@ -24,9 +24,10 @@ use vc_types::SendSettings;
 /// there, then reads frames one after another, sends each datagram that carries one, and at the end that of
 /// the end of the sequence (RFC 8450), and receives once after each. Up to `window` pictures are open (2 to
 /// 8), and the raw frames of the datagrams that come are written. Each slice that a picture keeps is offered
-/// to `workers` workers, and the same number of threads, at most 64, encodes each frame. If sending stops
-/// early, the frames of the datagrams received so far are still written, unless the output failed or memory
-/// ran out. If listening or aiming fails, no input is read. Raw frames are this project's own.
+/// to `workers` workers, and the same number of threads, at most 64, encodes each frame. With workers, each
+/// received picture is also transformed in four parts side by side. If sending stops early, the frames of the
+/// datagrams received so far are still written, unless the output failed or memory ran out. If listening or
+/// aiming fails, no input is read. Raw frames are this project's own.
 pub fn loop_back<H: Threads + Copy + Send + Sync, S: Source, O: Sink, N: Wire, P: Hands>(
     rt: H,
     alloc: Global,
@@ -62,7 +63,7 @@ pub fn loop_back<H: Threads + Copy + Send + Sync, S: Source, O: Sink, N: Wire, P
         return Err(Ending::WireFailed);
     };
     let inlet = WireInlet::new(&mut inbox, wire);
-    let mut receiver = Receiver::new(alloc, window);
+    let mut receiver = Receiver::new(alloc, threads_beside(rt, workers), window);
     let playout = Playout::new(&mut receiver, output, hands);
     let mut outlet = LoopOutlet { inlet, playout };
     loop_through(rt, workers, alloc, s, frames, input, &mut outlet)
@@ -76,7 +77,7 @@ fn loop_through<H: Threads + Copy + Send + Sync, S: Source, O: Sink, N: Wire, P:
     s: &SendSettings,
     frames: u32,
     input: &mut S,
-    outlet: &mut LoopOutlet<N, O, P>,
+    outlet: &mut LoopOutlet<N, H, O, P>,
 ) -> Result<Summary, Ending>
     requires ready { IsReady
         (loop_state N.told N.faults O.held O.faults P.told P.bound outlet.old) }

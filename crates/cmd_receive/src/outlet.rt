@@ -7,19 +7,20 @@ use crate::wire_inlet::WireInlet;
 use link_hearing::{Inlet, ListenerFault};
 use link_outside::{Outlet, OutletFault};
 use link_report::Ending;
+use std::thread::Threads;
 use vc_ports::{Sent, Sink, Wire};
 use vc_slice::Places;
 
 /// Sends each datagram to a wire, and then receives once, unless the network lost it, and lets a receiver
 /// hear what came, which writes its frames.
 #[derive(Drop)]
-pub(crate) struct LoopOutlet<'a, 'b, 'c, 'd, 'e, N, O, P> {
+pub(crate) struct LoopOutlet<'a, 'b, 'c, 'd, 'e, N, H, O, P> {
     pub(crate) inlet: WireInlet<'a, 'b, N>,
-    pub(crate) playout: Playout<'c, 'd, 'e, O, P>,
+    pub(crate) playout: Playout<'c, 'd, 'e, H, O, P>,
 }
 
-impl<'a, 'b, 'c, 'd, 'e, N: Wire, O: Sink, P: Places> Outlet
-    for LoopOutlet<'a, 'b, 'c, 'd, 'e, N, O, P> {
+impl<'a, 'b, 'c, 'd, 'e, N: Wire, H: Threads + Copy, O: Sink, P: Places> Outlet
+    for LoopOutlet<'a, 'b, 'c, 'd, 'e, N, H, O, P> {
     ghost use Rattle.cmd_receive.specs.Exchanges.{IsReady, LoopBroke, LoopsAs, WereLooped, loop_state};
 
     ghost is_ready = { λ x.

@@ -7,27 +7,28 @@ use bytes::Bytes;
 use link_hearing::{Listener, ListenerFault};
 use link_model::{Outcome, Tally};
 use link_receiver::{EnterFault, Receiver};
+use std::thread::Threads;
 use vc_ports::Sink;
 use vc_slice::Places;
 
 /// A receiver, with the output where its frames go and the places where its slices are decoded, all
 /// borrowed.
 #[derive(Drop)]
-pub(crate) struct Playout<'a, 'b, 'c, O, P> {
-    pub(crate) receiver: &'a mut Receiver,
+pub(crate) struct Playout<'a, 'b, 'c, H, O, P> {
+    pub(crate) receiver: &'a mut Receiver<H>,
     pub(crate) output: &'b mut O,
     pub(crate) places: &'c mut P,
 }
 
-impl<'a, 'b, 'c, O: Sink, P: Places> Playout<'a, 'b, 'c, O, P> {
+impl<'a, 'b, 'c, H: Threads + Copy, O: Sink, P: Places> Playout<'a, 'b, 'c, H, O, P> {
     ghost use Rattle.cmd_receive.specs.Playouts.{IsNew, IsWell, TakesDatagram, TakesEnd, playout_state};
 
     /// One of a receiver that has heard nothing.
     pub(crate) fn new(
-        receiver: &'a mut Receiver,
+        receiver: &'a mut Receiver<H>,
         output: &'b mut O,
         places: &'c mut P,
-    ) -> Playout<'a, 'b, 'c, O, P>
+    ) -> Playout<'a, 'b, 'c, H, O, P>
         requires new { IsNew receiver.old }
         ensures borrows_output { result.output.ghost_name ≡ output.entry.ghost_name }
         ensures borrows_places { result.places.ghost_name ≡ places.entry.ghost_name }
@@ -73,7 +74,7 @@ impl<'a, 'b, 'c, O: Sink, P: Places> Playout<'a, 'b, 'c, O, P> {
     }
 }
 
-impl<'a, 'b, 'c, O: Sink, P: Places> Listener for Playout<'a, 'b, 'c, O, P> {
+impl<'a, 'b, 'c, H: Threads + Copy, O: Sink, P: Places> Listener for Playout<'a, 'b, 'c, H, O, P> {
     ghost use Rattle.cmd_receive.specs.Playouts.{BorrowsAs, BreaksOff, Hears, IsWell, playout_state};
     ghost use Rattle.link_hearing.specs.Hearing.{fault_ending};
 

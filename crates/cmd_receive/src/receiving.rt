@@ -12,19 +12,22 @@ use crate::session_playout::SessionPlayout;
 use crate::wire_inlet::WireInlet;
 use link_hearing::hear_all;
 use link_outside::{Inbox, listen};
-use link_receiver::Receiver;
+use link_receiver::{Receiver, threads_beside};
 use link_report::{Answer, Ending, Summary};
 use std::alloc::Global;
+use std::thread::Threads;
 use vc_ports::{Reached, Sink, Wire};
 use vc_slice::{Hands, Places};
 
 /// Receives at most `packets` datagrams at an address, until `sessions` sessions have ended, with up to
 /// `window` pictures open (2 to 8), and writes the raw frames that they make. A frame is written as soon as
 /// its pictures are released. Each slice that a picture keeps is offered to `workers` workers; those that
-/// they don't decode in time are decoded here. If the wire fails, or `packets` datagrams have come, the
-/// frames of the datagrams received so far are still written. A wire that tells nothing ends once `idle`
-/// seconds have brought the session nothing new; with 0 it never does.
-pub fn recv<N: Wire, O: Sink, P: Hands>(
+/// they don't decode in time are decoded here. With workers, each picture is also transformed in four parts
+/// side by side. If the wire fails, or `packets` datagrams have come, the frames of the datagrams received so
+/// far are still written. A wire that tells nothing ends once `idle` seconds have brought the session nothing
+/// new; with 0 it never does.
+pub fn recv<H: Threads + Copy, N: Wire, O: Sink, P: Hands>(
+    rt: H,
     alloc: Global,
     window: u8,
     workers: u32,
@@ -50,7 +53,7 @@ pub fn recv<N: Wire, O: Sink, P: Hands>(
     let Ok(mut inbox) = Inbox::new(alloc) else {
         return Answer::Stopped(Ending::NoMemory);
     };
-    let mut receiver = Receiver::new(alloc, window);
+    let mut receiver = Receiver::new(alloc, threads_beside(rt, workers), window);
     let Reached::Yes = listen(wire, at, idle) else {
         let tally = *receiver.tally();
         return Answer::Drained(Summary::Judged { tally }, Ending::WireFailed);
@@ -64,10 +67,10 @@ pub fn recv<N: Wire, O: Sink, P: Hands>(
 }
 
 // Has a receiver that has heard nothing hear at most so many datagrams, until its sessions have ended.
-fn hear_wire<N: Wire, O: Sink, P: Places>(
+fn hear_wire<H: Threads + Copy, N: Wire, O: Sink, P: Places>(
     packets: u32,
     inlet: &mut WireInlet<N>,
-    listener: &mut SessionPlayout<O, P>,
+    listener: &mut SessionPlayout<H, O, P>,
 ) -> Result<(), Ending>
     requires listens { IsTrue (N.told inlet.old.wire.now).listens }
     requires new { IsNew listener.old.playout.receiver.now }

@@ -8,17 +8,19 @@ use crate::playout::Playout;
 use bytes::Bytes;
 use link_hearing::{Listener, ListenerFault};
 use link_model::Outcome;
+use std::thread::Threads;
 use vc_ports::Sink;
 use vc_slice::Places;
 
 /// A playout that wants datagrams until so many sessions have ended.
 #[derive(Drop)]
-pub(crate) struct SessionPlayout<'a, 'b, 'c, O, P> {
-    pub(crate) playout: Playout<'a, 'b, 'c, O, P>,
+pub(crate) struct SessionPlayout<'a, 'b, 'c, H, O, P> {
+    pub(crate) playout: Playout<'a, 'b, 'c, H, O, P>,
     pub(crate) count: SessionCount,
 }
 
-impl<'a, 'b, 'c, O: Sink, P: Places> Listener for SessionPlayout<'a, 'b, 'c, O, P> {
+impl<'a, 'b, 'c, H: Threads + Copy, O: Sink, P: Places> Listener
+    for SessionPlayout<'a, 'b, 'c, H, O, P> {
     ghost use Rattle.link_hearing.specs.Hearing.{fault_ending};
     ghost use Rattle.cmd_receive.specs.Playouts.{BorrowsAs, BreaksOff, IsWell, playout_state};
     ghost use Rattle.cmd_receive.specs.Sessions.{HearsWanted};

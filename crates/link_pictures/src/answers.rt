@@ -18,22 +18,25 @@ use link_gather::PictureBook;
 use picture_build::PictureBuilder;
 use std::alloc::Global;
 use std::marker::Model;
+use std::thread::Threads;
 use vc_slice::SliceDone;
 use vc_types::{NoMemory, Plan, Plane};
 
 /// The answers to slices of pictures that aren't released. Contracts see, of each picture that has
 /// one, its number, its parameters and its answers. A picture takes 8 bytes a coefficient from its
-/// first answer on, and the memory of one picture is kept for the next of the same plan. After
+/// first answer on, and the memory of one picture is kept for the next of the same plan. Where there are
+/// threads, a picture is transformed in four parts side by side, by join; otherwise in turn. After
 /// `NoMemory` nothing is promised of them.
 #[derive(Drop)]
-pub struct Answers {
+pub struct Answers<H> {
     alloc: Global,
+    threads: Option<H>,
     pictures: Vec<PictureSlices>,
     // Of a picture that is done with.
     spare: Option<PictureBuilder>,
 }
 
-impl Model for Answers {
+impl<H> Model for Answers<H> {
     ghost use Rattle.std.specs.Prelude.{List};
     ghost use Rattle.receiver_model.specs.Receptions.{PictureAnswers};
 
@@ -42,13 +45,14 @@ impl Model for Answers {
     ghost view = { λ a. a.pictures.items };
 }
 
-impl Answers {
+impl<H> Answers<H> {
     /// No answers.
-    pub fn new(alloc: Global) -> Answers
+    pub fn new(alloc: Global, threads: Option<H>) -> Answers<H>
         ensures { result ≡ [] }
     {
         Answers {
             alloc,
+            threads,
             pictures: Vec::new(alloc),
             spare: None,
         }
@@ -87,31 +91,6 @@ impl Answers {
         Ok(())
     }
 
-    /// The planes of a picture whose book is complete: by the answers to its slices, and of the
-    /// others by what their bytes decode to. There are none where a slice is unsound. The
-    /// picture's answers are forgotten, also where its book isn't complete.
-    pub fn take_planes(
-        &mut self,
-        number: u64,
-        book: Option<&PictureBook>,
-    ) -> Result<Option<[Plane; 3]>, NoMemory>
-        requires whole { IsWholeBySome (option_copied book) }
-        ensures planes { IfOk result (λ planes. option_map planes_in planes
-            ≡ option_and_then (book_planes self.old number) (option_copied book.entry)) }
-        ensures value { OnOk result (self.new ≡ answers_without self.old number) }
-        ensures shape { (s : Sequence) → IsWholeIfAny s (option_copied book.entry)
-            → IfOk result (λ planes. IfSome planes (λ p. ArePicturePlanes s (planes_in p))) }
-    {
-        let kept = taken(&mut self.pictures, number);
-        match book {
-            Some(book) => released(self.alloc, &mut self.spare, kept, number, book),
-            None => {
-                keep_spare(&mut self.spare, kept);
-                Ok(None)
-            }
-        }
-    }
-
     /// Whether there are planes of a picture, which aren't built. Its answers are forgotten, as by
     /// `take_planes`.
     pub fn take_soundness(
@@ -130,6 +109,40 @@ impl Answers {
             None => {
                 keep_spare(&mut self.spare, kept);
                 Ok(false)
+            }
+        }
+    }
+}
+
+impl<H: Threads + Copy> Answers<H> {
+    /// The planes of a picture whose book is complete: by the answers to its slices, and of the
+    /// others by what their bytes decode to. There are none where a slice is unsound. The
+    /// picture's answers are forgotten, also where its book isn't complete.
+    pub fn take_planes(
+        &mut self,
+        number: u64,
+        book: Option<&PictureBook>,
+    ) -> Result<Option<[Plane; 3]>, NoMemory>
+        requires whole { IsWholeBySome (option_copied book) }
+        ensures planes { IfOk result (λ planes. option_map planes_in planes
+            ≡ option_and_then (book_planes self.old number) (option_copied book.entry)) }
+        ensures value { OnOk result (self.new ≡ answers_without self.old number) }
+        ensures shape { (s : Sequence) → IsWholeIfAny s (option_copied book.entry)
+            → IfOk result (λ planes. IfSome planes (λ p. ArePicturePlanes s (planes_in p))) }
+    {
+        let kept = taken(&mut self.pictures, number);
+        match book {
+            Some(book) => released(
+                self.alloc,
+                self.threads,
+                &mut self.spare,
+                kept,
+                number,
+                book,
+            ),
+            None => {
+                keep_spare(&mut self.spare, kept);
+                Ok(None)
             }
         }
     }
@@ -165,8 +178,9 @@ fn keep_spare(spare: &mut Option<PictureBuilder>, kept: Option<PictureSlices>) {
 }
 
 // The planes of a picture by its book, and by the answers to its slices that are kept.
-fn released(
+fn released<H: Threads + Copy>(
     alloc: Global,
+    threads: Option<H>,
     spare: &mut Option<PictureBuilder>,
     kept: Option<PictureSlices>,
     number: u64,
@@ -190,7 +204,7 @@ fn released(
                 number,
                 book,
             };
-            let planes = source.planes(&unsound, &mut builder)?;
+            let planes = source.planes(threads, &unsound, &mut builder)?;
             *spare = Some(builder);
             Ok(planes)
         }

@@ -16,6 +16,7 @@ use bytes::Bytes;
 use link_gather::PictureBook;
 use picture_build::{NotPut, PictureBuilder};
 use std::alloc::Global;
+use std::thread::Threads;
 use vc_slice::{SliceDone, SliceJob, decode};
 use vc_types::{NoMemory, Plan, Plane, Unsound};
 
@@ -31,8 +32,10 @@ pub(crate) struct Source<'a> {
 impl Source<'_> {
     /// The planes of a picture, whose builder has the slices with a sound answer; none where a
     /// slice is unsound. The builder is then as for another picture of the plan, after a restart.
-    pub(crate) fn planes(
+    /// Where there are threads, the planes are made in parts side by side.
+    pub(crate) fn planes<H: Threads + Copy>(
         &self,
+        threads: Option<H>,
         unsound: &[Option<Unsound>],
         builder: &mut PictureBuilder,
     ) -> Result<Option<[Plane; 3]>, NoMemory>
@@ -47,7 +50,10 @@ impl Source<'_> {
         if !self.complete(unsound, builder)? {
             return Ok(None);
         }
-        let planes = builder.planes()?;
+        let planes = match threads {
+            Some(rt) => builder.planes_joined(rt)?,
+            None => builder.planes()?,
+        };
         Ok(Some(planes))
     }
 

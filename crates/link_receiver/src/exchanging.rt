@@ -17,7 +17,7 @@ use vc_slice::{Places, SliceDone, SliceJob};
 use vc_types::NoMemory;
 
 #[tactic(auto, using(crate::proofs::Asked::keeps_none, crate::proofs::Asked::keeps_twice))]
-impl Reception {
+impl<H> Reception<H> {
     /// Offers jobs to places, and takes back what is decoded: where a job is handed back, and where
     /// a picture may be released, which is answered.
     pub(crate) fn exchange<P: Places>(

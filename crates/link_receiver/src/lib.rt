@@ -13,8 +13,10 @@ mod reception;
 mod releasing;
 mod showing;
 mod taking;
+mod threads;
 
 pub use fault::EnterFault;
 pub use laws::{draining_follows_the_list, entering_follows_the_list};
 pub use link_model::{Outcome, Tally};
 pub use receiver::Receiver;
+pub use threads::threads_beside;

@@ -25,19 +25,20 @@ use link_model::{Outcome, Tally};
 use link_pictures::StreamOutput;
 use std::alloc::Global;
 use std::marker::Model;
+use std::thread::Threads;
 use vc_ports::Sink;
 use vc_slice::Places;
 
 /// A receiver of datagrams. Contracts see what it has, as plain data, and whether it has failed.
 #[derive(Drop)]
-pub struct Receiver {
-    reception: Reception,
+pub struct Receiver<H> {
+    reception: Reception<H>,
     /// What was written of the elementary stream, in a receiver of units.
     stream: Option<StreamOutput>,
     has_failed: bool,
 }
 
-impl Model for Receiver {
+impl<H> Model for Receiver<H> {
     ghost use Rattle.link_receiver.specs.States.{ReceiverState, IsReceiver};
 
     ghost Value = { ReceiverState };
@@ -55,10 +56,11 @@ impl Model for Receiver {
     }) };
 }
 
-impl Receiver {
+impl<H: Threads + Copy> Receiver<H> {
     /// A receiver that has received nothing, with up to `size` pictures open at a time, from 2 to 8. It
-    /// writes raw frames.
-    pub fn new(alloc: Global, size: u8) -> Receiver
+    /// writes raw frames. With threads, each picture is transformed in four parts side by side, by join;
+    /// without, one component after another.
+    pub fn new(alloc: Global, threads: Option<H>, size: u8) -> Receiver<H>
         requires least { 2 ≤ size }
         requires most { size ≤ 8 }
         ensures value { result ≡ record {
@@ -69,7 +71,7 @@ impl Receiver {
         ensures heard { HasHeard AsFrames result size [] }
     {
         Receiver {
-            reception: Reception::new(alloc, size),
+            reception: Reception::new(alloc, threads, size),
             stream: None,
             has_failed: false,
         }
@@ -78,7 +80,7 @@ impl Receiver {
     /// The same, but it writes an elementary stream: of the first session the sequence header, the
     /// pictures of the frames that `new`'s receiver would write, and at the end of the input an end
     /// of sequence. Where there is no picture it writes nothing.
-    pub fn units(alloc: Global, size: u8) -> Receiver
+    pub fn units(alloc: Global, threads: Option<H>, size: u8) -> Receiver<H>
         requires least { 2 ≤ size }
         requires most { size ≤ 8 }
         ensures value { result ≡ record {
@@ -89,7 +91,7 @@ impl Receiver {
         ensures heard { HasHeard AsUnits result size [] }
     {
         Receiver {
-            reception: Reception::new(alloc, size),
+            reception: Reception::new(alloc, threads, size),
             stream: Some(StreamOutput::new(alloc)),
             has_failed: false,
         }
@@ -104,7 +106,7 @@ impl Receiver {
     }
 
     /// Takes a datagram: keeps what it brings, offers its slices to places and takes back what is
-    /// decoded there, and writes each frame that may be written, or its units. It waits for nobody.
+    /// decoded there, and writes each frame that may be written, or its units. It waits for no worker.
     /// `Ended` exactly where an earlier call failed or the input has ended; nothing changes then.
     /// After any other fault a prefix of what was to be written went out.
     #[tactic(auto, using(crate::proofs::Asked::asked_none))]
@@ -176,7 +178,7 @@ impl Receiver {
     }
 
     /// Takes the end of the input: takes back what is decoded, and writes each frame that isn't
-    /// written yet. It waits for nobody. `Ended` exactly where an earlier call failed or the input
+    /// written yet. It waits for no worker. `Ended` exactly where an earlier call failed or the input
     /// has ended; nothing changes then. After any other fault a prefix of what was to be written
     /// went out.
     #[tactic(auto, using(crate::proofs::Asked::asked_none))]

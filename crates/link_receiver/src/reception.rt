@@ -21,18 +21,18 @@ use vc_types::NoMemory;
 
 /// What a receiver has of the datagrams that it took. After a fault nothing is promised of it.
 #[derive(Drop)]
-pub(crate) struct Reception {
+pub(crate) struct Reception<H> {
     pub(crate) alloc: Global,
     pub(crate) size: u8,
     pub(crate) standing: Option<Standing>,
     pub(crate) counts: Tally,
-    pub(crate) answers: Answers,
+    pub(crate) answers: Answers<H>,
     pub(crate) out: SlicesOut,
     pub(crate) field: FrameOutput,
     pub(crate) has_ended: bool,
 }
 
-impl Model for Reception {
+impl<H> Model for Reception<H> {
     ghost use Rattle.receiver_model.specs.Receptions as receptions;
 
     ghost Value = { receptions.Reception };
@@ -48,8 +48,8 @@ impl Model for Reception {
     } };
 }
 
-impl Reception {
-    pub(crate) fn new(alloc: Global, size: u8) -> Reception
+impl<H> Reception<H> {
+    pub(crate) fn new(alloc: Global, threads: Option<H>, size: u8) -> Reception<H>
         ensures { result ≡ new_reception size }
     {
         Reception {
@@ -57,7 +57,7 @@ impl Reception {
             size,
             standing: None,
             counts: Tally::default(),
-            answers: Answers::new(alloc),
+            answers: Answers::new(alloc, threads),
             out: SlicesOut::new(alloc),
             field: FrameOutput::new(alloc),
             has_ended: false,

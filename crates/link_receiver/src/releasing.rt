@@ -21,11 +21,12 @@ use crate::reception::Reception;
 use crate::showing::show;
 use link_pictures::StreamOutput;
 use link_window::Released;
+use std::thread::Threads;
 use vc_ports::Sink;
 use vc_slice::Places;
 
 #[tactic(auto, using(crate::proofs::Asked::keeps_none, crate::proofs::Asked::keeps_twice))]
-impl Reception {
+impl<H: Threads + Copy> Reception<H> {
     /// Releases each picture that may be released, of which this is the next, if there is one.
     pub(crate) fn release_all<P: Places, O: Sink>(
         &mut self,

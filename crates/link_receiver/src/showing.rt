@@ -12,6 +12,7 @@ ghost use Rattle.vc_types.specs.Planes.{planes_in};
 use crate::fault::StepFault;
 use link_pictures::{Answers, FrameOutput, ReleasedPicture, Shown, StreamOutput};
 use link_window::{PictureBook, Standing};
+use std::thread::Threads;
 use vc_ports::Sink;
 use vc_types::{NoMemory, Plane};
 
@@ -24,8 +25,8 @@ pub(crate) struct Seen {
 
 /// Releases the answers of a picture, and writes the frame of which it is the last, or, where there
 /// is a stream, the units of that frame's pictures. What waits for a second field is the same.
-pub(crate) fn show<O: Sink>(
-    answers: &mut Answers,
+pub(crate) fn show<H: Threads + Copy, O: Sink>(
+    answers: &mut Answers<H>,
     field: &mut FrameOutput,
     stream: &mut Option<StreamOutput>,
     standing: &Standing,
@@ -46,8 +47,8 @@ pub(crate) fn show<O: Sink>(
     }
 }
 
-fn show_frame<O: Sink>(
-    answers: &mut Answers,
+fn show_frame<H: Threads + Copy, O: Sink>(
+    answers: &mut Answers<H>,
     field: &mut FrameOutput,
     standing: &Standing,
     number: u64,
@@ -65,8 +66,8 @@ fn show_frame<O: Sink>(
     Ok(Seen { is_sound, shown })
 }
 
-fn show_units<O: Sink>(
-    answers: &mut Answers,
+fn show_units<H: Threads + Copy, O: Sink>(
+    answers: &mut Answers<H>,
     field: &mut FrameOutput,
     stream: &mut StreamOutput,
     standing: &Standing,
@@ -95,8 +96,8 @@ fn show_units<O: Sink>(
 }
 
 // The frame itself isn't made, and planes only of a first field, which waits.
-fn pass(
-    answers: &mut Answers,
+fn pass<H: Threads + Copy>(
+    answers: &mut Answers<H>,
     field: &mut FrameOutput,
     standing: &Standing,
     number: u64,
@@ -118,8 +119,8 @@ fn pass(
 }
 
 // The planes of a picture, whose answers are forgotten.
-fn take_planes(
-    answers: &mut Answers,
+fn take_planes<H: Threads + Copy>(
+    answers: &mut Answers<H>,
     standing: &Standing,
     number: u64,
 ) -> Result<Option<[Plane; 3]>, NoMemory>
@@ -133,7 +134,11 @@ fn take_planes(
 }
 
 // Whether a picture has planes, which aren't built; its answers are forgotten.
-fn take_soundness(answers: &mut Answers, standing: &Standing, number: u64) -> Result<bool, NoMemory>
+fn take_soundness<H>(
+    answers: &mut Answers<H>,
+    standing: &Standing,
+    number: u64,
+) -> Result<bool, NoMemory>
     ensures sound { IfOk result (λ sound. sound
         ≡ is_some (released_planes answers.old standing.now.window number)) }
     ensures value { OnOk result (answers.new ≡ answers_without answers.old number) }

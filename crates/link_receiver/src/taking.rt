@@ -20,12 +20,13 @@ use bytes::Bytes;
 use link_model::Outcome;
 use link_pictures::StreamOutput;
 use link_window::Opening;
+use std::thread::Threads;
 use vc_ports::Sink;
 use vc_slice::Places;
 use vc_types::NoMemory;
 
 #[tactic(auto, using(crate::proofs::Asked::keeps_none, crate::proofs::Asked::keeps_twice))]
-impl Reception {
+impl<H: Threads + Copy> Reception<H> {
     /// Takes a datagram: keeps it, exchanges slices, releases pictures, and opens a session.
     pub(crate) fn enter<P: Places, O: Sink>(
         &mut self,

@@ -1,11 +1,11 @@
--- A slice's coefficients that are put into cells subband by subband, or one by one: none is written over.
-use Rattle.std.proofs.Common.{◌≡◌, ◌≢◌, ℕ, ◌+◌, ◌-◌, ◌<◌, ◌≤◌, List, ℤ, length, arith, ap, sym, subst, ◌∙◌, inl, inr}
-use Rattle.std.proofs.lemmas.Bool.{cases_lt, cases_eq}
-use Rattle.std.proofs.lemmas.Nat.{same_from_place, mul-add-lt}
+-- A slice's coefficients that are put into cells subband by subband: none is written over.
+use Rattle.std.proofs.Common.{◌≡◌, ◌≢◌, ℕ, ◌+◌, ◌-◌, ◌<◌, ◌≤◌, List, ℤ, arith, ap, sym, subst, ◌∙◌, inl, inr}
+use Rattle.std.proofs.lemmas.Bool.{cases_lt}
+use Rattle.std.proofs.lemmas.Nat.{same_from_place}
 use Rattle.vc_types.specs.declared.rect.Rect.{Rect}
 use Rattle.vc_types.specs.declared.video.Component.{Component}
 use Rattle.vc_types.specs.Lifting.{line_of}
-use Rattle.vc_types.specs.Subbands.{area, place_in, slice_count, slice_coefficient_count, coefficient_place, padded_width, padded_height}
+use Rattle.vc_types.specs.Subbands.{area, place_in, slice_count, slice_coefficient_count, coefficient_place, padded_width}
 use Rattle.vc_types.specs.TransformParameters.{Parameters, parameters_of}
 use Rattle.vc_geometry.proofs.CoefficientPlaces.{place-inside}
 use Rattle.vc_slice.specs.declared.bands.SliceParts.{SliceParts}
@@ -17,7 +17,7 @@ use Rattle.vc_types.proofs.SliceCounts.{some_across, some_down}
 use Rattle.vc_types.proofs.SliceRectangles.{coefficients_before, coefficients_before-more, coefficients_before-all}
 use Rattle.picture_build.specs.Cells.{cell_number}
 use Rattle.picture_build.specs.Kept.{kept_at}
-use Rattle.picture_build.specs.PartsKept.{AreCells, place_kept}
+use Rattle.picture_build.specs.PartsKept.{place_kept}
 
 -- no two coefficients go to one cell
 pub kept_apart : (p : Parameters) (c : Component) → 0 < p.slices_x → 0 < p.slices_y → (s i t j : ℕ) → s < slice_count p → i < slice_coefficient_count p c s → t < slice_count p → j < slice_coefficient_count p c t
@@ -50,27 +50,6 @@ module _ (parts : SliceParts) (c : Component) where
 
   apart : (i j : ℕ) → i < coefficient_count parts c → j < coefficient_count parts c → place_kept parts c i ≡ place_kept parts c j → i ≡ j
   apart i j hi hj e = (kept_apart p c across down parts.slice i parts.slice j parts.in_plan hi parts.in_plan hj e).1
-
-  -- each coefficient has a cell
-  pub kept_inside : (i : ℕ) (cells : List ℤ) → i < coefficient_count parts c → AreCells parts c cells → place_kept parts c i < length cells
-  kept_inside i cells below are =
-      let place = coefficient_place p c parts.slice i in
-      let inside = place-inside p c across parts.slice i parts.in_plan below in
-      omega (arith, are, mul-add-lt place.1 (padded_width p c) place.0 (padded_height p c) inside.1 inside.0)
-
-  -- a coefficient more
-  module _ (i : ℕ) (coeffs : ℕ → ℤ) (old new : List ℤ) (place : ℕ) (below : i < coefficient_count parts c) (is : place ≡ place_kept parts c i)
-      (on : line_of new place ≡ coeffs i) (off : (k : ℕ) → k ≢ place → line_of new k ≡ line_of old k) where
-    pub one_stands : FirstStand coeffs i old → FirstStand coeffs (i + 1) new
-    one_stands before j h = elim (cases_eq j i) [
-      | inl e ↦ rw e (ap (line_of new) (sym is) ∙ on)
-      | inr ne ↦ (
-          let earlier : j < i = omega arith in
-          off (place_kept parts c j) (λ e. ne (apart j i (omega arith) below (e ∙ is))) ∙ before j earlier)
-    ]
-
-    pub one_stays : (first : List ℤ) → OthersStay (coefficient_count parts c) first old → OthersStay (coefficient_count parts c) first new
-    one_stays first before k none = off k (λ e. none i below (e ∙ is)) ∙ before k none
 
   -- a subband more
   module _ (b from : ℕ) (r : Rect) (inside : b < band_count parts) (is : r ≡ rectangle parts c b) (at : from ≡ coefficients_before p c parts.slice b) where

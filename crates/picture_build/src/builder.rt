@@ -179,11 +179,9 @@ impl PictureBuilder {
         planes
     }
 
-    /// The same, where the components are transformed side by side, luma's highest level in two halves, by join.
-    pub fn planes_joined<H: Threads + Copy + Send + Sync>(
-        &mut self,
-        rt: H,
-    ) -> Result<[Plane; 3], NoMemory>
+    /// The same, where the components are transformed side by side, by join, luma's highest level in two
+    /// halves.
+    pub fn planes_joined<H: Threads + Copy>(&mut self, rt: H) -> Result<[Plane; 3], NoMemory>
         requires whole { HasAllSlices self.old }
         ensures value { IfOk result (λ planes. planes_in planes
             ≡ planes_of self.old.parameters (slices_of self.old)) }

@@ -26,7 +26,7 @@ pub fn build(alloc: Global, plan: &Plan, slices: Vec<SliceCoeffs>) -> Result<[Pl
 }
 
 /// The same, where luma is transformed beside the colours, by join.
-pub fn build_joined<H: Threads + Copy + Send + Sync>(
+pub fn build_joined<H: Threads + Copy>(
     rt: H,
     alloc: Global,
     plan: &Plan,

@@ -76,6 +76,7 @@ fn put_rect(cells: &mut [i32], to: &CellRect, quantised: QuantisedNumbers<'_>, f
         2 => put_rows(cells, to, quantised, from, 2),
         4 => put_rows(cells, to, quantised, from, 4),
         8 => put_rows(cells, to, quantised, from, 8),
+        16 => put_rows(cells, to, quantised, from, 16),
         width => put_rows(cells, to, quantised, from, width as usize),
     }
 }
@@ -117,9 +118,9 @@ fn put_row(cells: &mut [i32], at: usize, quantised: QuantisedNumbers<'_>, from: 
 {
     let numbers = quantised.numbers;
     let quantiser = quantised.quantiser;
-    if width <= 8 {
+    if width <= 16 {
         // All numbers are read before a coefficient is written, so that they go over at once.
-        let mut few = [0; 8];
+        let mut few = [0; 16];
         for x in 0..width {
             few[x] = quantiser.dequant(numbers[from + x]);
         }

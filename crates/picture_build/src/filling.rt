@@ -1,5 +1,5 @@
-ghost use Rattle.std.specs.Prelude.{◌≡◌, ◌≢◌, ◌+◌, ◌*◌, ◌^◌, ◌<◌, ◌≤◌, ℕ, length, true, false};
-ghost use Rattle.std.specs.Prelude.{unsigned_abs, Some, Ok, OnOk};
+ghost use Rattle.std.specs.Prelude.{◌≡◌, ◌≢◌, ◌+◌, ◌*◌, ◌<◌, ◌≤◌, ℕ, length, true, false};
+ghost use Rattle.std.specs.Prelude.{Some, Ok, OnOk};
 ghost use Rattle.std.specs.List.{list_any};
 ghost use Rattle.vc_types.specs.declared.video.Component.{Component};
 ghost use Rattle.vc_types.specs.declared.video.Component.TheVariants.{Y, C1, C2};
@@ -17,7 +17,8 @@ ghost use Rattle.vc_types.specs.OfPlan.{slice_coefficient_count, slice_coefficie
 
 use crate::cell_rect::CellRect;
 use crate::cells::CoefficientCells;
-use vc_geometry::{bands as band_count, padded, place_of, slice_len};
+use crate::wide::place_wide;
+use vc_geometry::{bands as band_count, padded};
 use vc_slice::{
     CodedSlice, CoefficientList, SliceBands, SliceCoeffs, SliceParts, TooWide, coded_slice,
     read_numbers,
@@ -184,27 +185,7 @@ fn narrowed(coeffs: &[i64], numbers: &mut [i32]) -> bool
     true
 }
 
-fn place_wide(parts: &SliceParts, c: Component, coeffs: &[i64], cells: &mut CoefficientCells)
-    requires count { length coeffs.now ≡ coefficient_count parts.now c }
-    requires small { (i : ℕ) → i < length coeffs.now
-        → unsigned_abs (line_of coeffs.now i) < 2 ^ 60 }
-    requires cells { AreCells parts.now c cells.old }
-    ensures on { (i : ℕ) → i < length coeffs.now
-        → line_of cells.new (place_kept parts.now c i) ≡ line_of coeffs.now i }
-    ensures off { (k : ℕ) → ((i : ℕ) → i < length coeffs.now → k ≢ place_kept parts.now c i)
-        → line_of cells.new k ≡ line_of cells.old k }
-    ensures length { length cells.new ≡ length cells.old }
-{
-    let plan = &parts.plan;
-    let (width, _) = padded(plan, c);
-    for i in 0..slice_len(plan, c, parts.slice) {
-        let (x, y) = place_of(plan, c, parts.slice, i);
-        let at = y as usize * width as usize + x as usize;
-        cells.put(at, coeffs[i as usize]);
-    }
-}
-
-// The same, where the coefficients have 32 bits each.
+// Puts a component's coefficients at their places, where they have 32 bits each.
 fn place_numbers(parts: &SliceParts, c: Component, numbers: &[i32], cells: &mut CoefficientCells)
     requires count { coefficient_count parts.now c ≤ length numbers.now }
     requires cells { AreCells parts.now c cells.old }

@@ -62,8 +62,9 @@ pub(crate) fn planes_in_turn(
     Ok([y, c1, c2])
 }
 
-/// The same, luma beside the colours, by join, and its highest level in two halves side by side.
-pub(crate) fn planes_at_once<H: Threads + Sync>(
+/// The same, on four threads, by join: each colour component has a thread of its own, and so has the upper
+/// half of luma's highest level. The rest of luma stays on this one, so that no other thread starts any.
+pub(crate) fn planes_at_once<H: Threads>(
     rt: &H,
     alloc: Global,
     plan: &Plan,
@@ -75,7 +76,7 @@ pub(crate) fn planes_at_once<H: Threads + Sync>(
     ensures { IfOk result (λ planes. ArePlanesOf plan.now
         cells.now.y.now cells.now.c1.now cells.now.c2.now (planes_in planes)) }
 {
-    let (y, (c1, c2)) = joined(
+    let (c1, (c2, y)) = joined(
         rt,
         alloc,
         plan,
@@ -89,8 +90,8 @@ pub(crate) fn planes_at_once<H: Threads + Sync>(
 
 type Answer = Result<Plane, NoMemory>;
 
-// The planes of the three components, luma's beside the colours'.
-fn joined<H: Threads + Sync>(
+// The planes of C1, and of C2 and luma, side by side.
+fn joined<H: Threads>(
     rt: &H,
     alloc: Global,
     plan: &Plan,
@@ -101,36 +102,36 @@ fn joined<H: Threads + Sync>(
 ) -> (Answer, (Answer, Answer))
     requires { (slices : List Coefficients) × AllAreIn (parameters_of plan.now) slices
         cells.now.y.now cells.now.c1.now cells.now.c2.now }
-    ensures y { IfOk result.0 (λ plane. IsPlaneOf plan.now Y cells.now.y.now plane) }
-    ensures c1 { IfOk result.1.0 (λ plane. IsPlaneOf plan.now C1 cells.now.c1.now plane) }
-    ensures c2 { IfOk result.1.1 (λ plane. IsPlaneOf plan.now C2 cells.now.c2.now plane) }
-{
-    join_mut(
-        rt,
-        &mut || component_joined(rt, alloc, plan, Component::Y, cells.y, luma),
-        &mut || colours(rt, alloc, plan, cells, first, second),
-    )
-}
-
-// The planes of both colour components, side by side.
-fn colours<H: Threads>(
-    rt: &H,
-    alloc: Global,
-    plan: &Plan,
-    cells: &PictureCells<'_>,
-    first: &mut Vec<i32>,
-    second: &mut Vec<i32>,
-) -> (Answer, Answer)
-    requires { (slices : List Coefficients)
-        × AreIn (parameters_of plan.now) C1 slices cells.now.c1.now
-        × AreIn (parameters_of plan.now) C2 slices cells.now.c2.now }
     ensures c1 { IfOk result.0 (λ plane. IsPlaneOf plan.now C1 cells.now.c1.now plane) }
-    ensures c2 { IfOk result.1 (λ plane. IsPlaneOf plan.now C2 cells.now.c2.now plane) }
+    ensures c2 { IfOk result.1.0 (λ plane. IsPlaneOf plan.now C2 cells.now.c2.now plane) }
+    ensures y { IfOk result.1.1 (λ plane. IsPlaneOf plan.now Y cells.now.y.now plane) }
 {
     join_mut(
         rt,
         &mut || component(alloc, plan, Component::C1, cells.c1, first),
+        &mut || luma_beside_second(rt, alloc, plan, cells, luma, second),
+    )
+}
+
+// The planes of C2 and luma, side by side.
+fn luma_beside_second<H: Threads>(
+    rt: &H,
+    alloc: Global,
+    plan: &Plan,
+    cells: &PictureCells<'_>,
+    luma: &mut Vec<i32>,
+    second: &mut Vec<i32>,
+) -> (Answer, Answer)
+    requires { (slices : List Coefficients)
+        × AreIn (parameters_of plan.now) Y slices cells.now.y.now
+        × AreIn (parameters_of plan.now) C2 slices cells.now.c2.now }
+    ensures c2 { IfOk result.0 (λ plane. IsPlaneOf plan.now C2 cells.now.c2.now plane) }
+    ensures y { IfOk result.1 (λ plane. IsPlaneOf plan.now Y cells.now.y.now plane) }
+{
+    join_mut(
+        rt,
         &mut || component(alloc, plan, Component::C2, cells.c2, second),
+        &mut || component_joined(rt, alloc, plan, Component::Y, cells.y, luma),
     )
 }
 

@@ -13,6 +13,7 @@ mod laws;
 mod narrow;
 mod output;
 mod sizes;
+mod wide;
 
 pub use builder::{NotPut, PictureBuilder};
 pub use building::{build, build_joined};

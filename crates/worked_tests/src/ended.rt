@@ -7,6 +7,7 @@ use bytes::Bytes;
 use link_receiver::{EnterFault, Outcome, Receiver};
 use std::alloc::Global;
 use std::test::Fail;
+use std::thread::Threads;
 use vc_ports::MemSink;
 use vc_slice::{Places, SliceDone, SliceJob};
 use vc_types::NoMemory;
@@ -61,10 +62,10 @@ fn datagram(alloc: Global, payload: &[u8]) -> Result<Bytes, NoMemory> {
 
 // Takes a datagram with each payload, up to the first that doesn't come to its outcome. Whether there is
 // none.
-fn enter_all(
+fn enter_all<H: Threads + Copy>(
     alloc: Global,
     payloads: &[(&[u8], Result<Outcome, EnterFault>)],
-    receiver: &mut Receiver,
+    receiver: &mut Receiver<H>,
     places: &mut Counting,
     sink: &mut MemSink,
 ) -> Result<bool, NoMemory>
@@ -94,9 +95,9 @@ fn is_same(came: Result<Outcome, EnterFault>, wanted: Result<Outcome, EnterFault
 }
 
 // Takes a header and a picture, and ends. Whether each is taken, and the end is a fault of the sink.
-fn enter_picture(
+fn enter_picture<H: Threads + Copy>(
     alloc: Global,
-    receiver: &mut Receiver,
+    receiver: &mut Receiver<H>,
     places: &mut Counting,
     sink: &mut MemSink,
 ) -> Result<bool, NoMemory>
@@ -116,9 +117,9 @@ fn enter_picture(
 }
 
 // Whether it ends again, after one datagram that it doesn't take.
-fn has_ended(
+fn has_ended<H: Threads + Copy>(
     alloc: Global,
-    receiver: &mut Receiver,
+    receiver: &mut Receiver<H>,
     places: &mut Counting,
     sink: &mut MemSink,
 ) -> Result<bool, NoMemory>
@@ -140,7 +141,7 @@ fn nothing_is_called_after_a_fault(rt: HostRuntime) -> Result<(), Fail> {
     let alloc = rt.alloc();
     let mut places = Counting { calls: 0 };
     let mut sink = MemSink::new(alloc, 96, vec![in alloc; 1]?)?;
-    let mut receiver = Receiver::new(alloc, 2);
+    let mut receiver = Receiver::new(alloc, None::<HostRuntime>, 2);
     assert!(rt; enter_picture(alloc, &mut receiver, &mut places, &mut sink)?);
     let calls = places.calls;
     assert!(rt; has_ended(alloc, &mut receiver, &mut places, &mut sink)?);

@@ -11,14 +11,14 @@ use Rattle.vc_types.specs.TransformParameters.{Parameters, parameters_of}
 use Rattle.link_pictures.proofs.answers.released.Goals as goal
 
 pub planes-requires-clause-slices : goal.planes-requires-clause-slices
-planes-requires-clause-slices c =
+planes-requires-clause-slices g c =
     let p = parameters_of c.in-Some.plan in
     let book = c.args.book.now in
     let plan : IsWholePlan book (Some p) = rw c.in-Some.is at c.whole_plan.ensures in
     whole_slices book plan.0 plan.1 c.requires.whole.0 c.requires.whole.1 plan.3 p plan.2
 
 pub returns-in_ok-planes-in-Some : goal.returns-in_ok-planes-in-Some
-returns-in_ok-planes-in-Some c =
+returns-in_ok-planes-in-Some g c =
     let p = parameters_of c.in-Some.plan in
     let book = c.args.book.now in
     let plan : IsWholePlan book (Some p) = rw c.in-Some.is at c.whole_plan.ensures in

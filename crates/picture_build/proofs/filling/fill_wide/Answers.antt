@@ -14,9 +14,6 @@ returns-then-narrowed c = record {
 
 pub returns-else-narrowed : goal.returns-else-narrowed
 returns-else-narrowed c = record {
-  only = record {
-    length = c.place_wide.ensures.length;
-    others = λ k none. c.place_wide.ensures.off k (λ i h. none i (omega (arith, c.requires.count)));
-  };
-  own = λ i h. c.place_wide.ensures.on i (omega (arith, c.requires.count));
+  only = record { length = c.place_wide.ensures.length; others = c.place_wide.ensures.off };
+  own = c.place_wide.ensures.on;
 }

@@ -8,8 +8,8 @@ returns-in_err-picture-clause-refused g c =
     let same : c.from_residual.result ≡ Err c.in_err-picture.field-0.0 = search rules in
     rw same c.in_err-picture.ensures.refused
 
-pub planes_joined-requires-clause-whole : goal.planes_joined-requires-clause-whole
-planes_joined-requires-clause-whole g c κs within = has_all c.args.p.now c.args.bytes.now c.in_ok-picture.picture c.in_ok-picture.ensures.value
+pub planes_joined-requires : goal.planes_joined-requires
+planes_joined-requires g c = record { whole = has_all c.args.p.now c.args.bytes.now c.in_ok-picture.picture c.in_ok-picture.ensures.value }
 
 pub returns-in_err-planes_joined-clause-refused : goal.returns-in_err-planes_joined-clause-refused
 returns-in_err-planes_joined-clause-refused g c =

@@ -10,7 +10,7 @@ use Rattle.receiver_model.proofs.KeptAnswers.{none_at}
 use Rattle.link_pictures.proofs.answers.Answers.keep.Goals as goal
 
 pub keep-requires : goal.keep-requires
-keep-requires c =
+keep-requires g c =
     let n = c.args.done.job.number in
     let i = c.args.done.job.index in
     let l = c.self.inside.pictures.items in
@@ -24,7 +24,7 @@ keep-requires c =
     }
 
 pub returns-in-Some : goal.returns-in-Some
-returns-in-Some c =
+returns-in-Some g c =
     let n = c.args.done.job.number in
     let l = c.self.inside.pictures.items in
     let place = c.in-Some.place in
@@ -39,10 +39,10 @@ returns-in-Some c =
     }
 
 pub keep-requires-in-None : goal.keep-requires-in-None
-keep-requires-in-None c = grind (arith, none_at)
+keep-requires-in-None g c = grind (arith, none_at)
 
 pub returns-in_ok-push-in-None : goal.returns-in_ok-push-in-None
-returns-in_ok-push-in-None c =
+returns-in_ok-push-in-None g c =
     let n = c.args.done.job.number in
     let l = c.self.inside.pictures.items in
     let done = answered c.args.done in

@@ -4,7 +4,7 @@ use Rattle.receiver_model.proofs.NewReception.{new_stands}
 use Rattle.link_receiver.proofs.receiver.Receiver.new.Goals as goal
 
 pub returns-clause-heard : goal.returns-clause-heard
-returns-clause-heard c = record {
+returns-clause-heard g c = record {
   sound = refl;
   least = c.requires.least;
   fits = c.requires.most;

@@ -6,7 +6,7 @@ use Rattle.link_pictures.specs.Writing.{nothing_written}
 use Rattle.link_receiver.proofs.receiver.Receiver.units.Goals as goal
 
 pub returns-clause-heard : goal.returns-clause-heard
-returns-clause-heard c = record {
+returns-clause-heard g c = record {
   sound = refl;
   least = c.requires.least;
   fits = c.requires.most;

@@ -28,7 +28,7 @@ pub returns-in_ok-accept-in-Some-clause-exchanged :
 returns-in_ok-accept-in-Some-clause-exchanged g c =
     rw (← c.self.view_is) (
       Takes c.place-place.result (Some c.in-Some.done) ∷ [],
-      take_some (g.P.Places.told c.args.places.now) (g.P.Places.told c.ask.new.places) (the_view c.self.inside)
+      take_some (g.P.Places.told c.args.places.now) (g.P.Places.told c.ask.new.places) (the_view g.row.H c.self.inside)
           c.ask.new.self c.accept.new.self c.place-place.result c.in-Some.done
           c.in-Some.ensures.told c.in-Some.ensures.out c.in_ok-accept-in-Some.ensures.value,
       refl,
@@ -39,7 +39,7 @@ pub returns-in-None-clause-exchanged : goal.returns-in-None-clause-exchanged
 returns-in-None-clause-exchanged g c =
     rw (← c.self.view_is) (
       Takes c.place-place.result None ∷ [],
-      take_none (g.P.Places.told c.args.places.now) (g.P.Places.told c.ask.new.places) (the_view c.self.inside)
+      take_none (g.P.Places.told c.args.places.now) (g.P.Places.told c.ask.new.places) (the_view g.row.H c.self.inside)
           c.ask.new.self c.place-place.result c.in-None.ensures.told c.in-None.ensures.out,
       refl,
       asked_got c.self.inside.out c.args.i c.place-place.result c.place-place.ensures,

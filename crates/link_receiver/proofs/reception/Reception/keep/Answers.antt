@@ -5,7 +5,7 @@ use Rattle.link_window.specs.Hearing.{IsHeard}
 use Rattle.link_receiver.proofs.reception.Reception.keep.Goals as goal
 
 pub keep_heard-requires-clause-heard : goal.keep_heard-requires-clause-heard
-keep_heard-requires-clause-heard c = (
+keep_heard-requires-clause-heard g c = (
   c.args.datagram.now,
   subst (λ (o : Option StandingSession). IsHeard o c.args.datagram.now c.in_ok-heard.heard)
       c.as_ref.ensures.value c.in_ok-heard.ensures,
@@ -13,5 +13,5 @@ keep_heard-requires-clause-heard c = (
 
 pub returns-clause-jobs : goal.returns-clause-jobs
 unfolding datagram_jobs
-returns-clause-jobs c =
+returns-clause-jobs g c =
     grind (arith, c.as_ref.ensures.value, c.in_ok-heard.ensures, c.in_ok-kept.ensures, c.self.view_is)

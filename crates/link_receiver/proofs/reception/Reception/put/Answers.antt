@@ -7,7 +7,7 @@ use Rattle.link_receiver.proofs.reception.Reception.put.Goals as goal
 pub returns-clause-exchanged : goal.returns-clause-exchanged
 returns-clause-exchanged g c =
     rw (← c.self.view_is) (put_calls c.offer.result (g.P.Places.told c.args.places.now)
-    (g.P.Places.told c.offer.new.places) (the_view c.self.inside) c.offer.new.self c.args.job c.offer.ensures.offered)
+    (g.P.Places.told c.offer.new.places) (the_view g.row.H c.self.inside) c.offer.new.self c.args.job c.offer.ensures.offered)
 
 pub returns-clause-places : goal.returns-clause-places
 returns-clause-places g c = record {
