@@ -14,7 +14,7 @@ use Rattle.link_sender.specs.Packing.{bytes_of_all}
 use Rattle.vc_ports.specs.Writing.{Grew}
 use Rattle.vc_types.specs.SenderSettings.{Generating}
 
-pub nothing_checked : (g : Generating) (window : ℕ) (checker : Checker) → HasHeard AsFrames checker.receiver window [] → ((bytes : List ℕ) → counted_with checker.comparison bytes ≡ differences g bytes) → IsCheckedUpTo g window [] checker
+pub nothing_checked : {H : Type 0} (g : Generating) (window : ℕ) (checker : Checker H) → HasHeard AsFrames checker.receiver window [] → ((bytes : List ℕ) → counted_with checker.comparison bytes ≡ differences g bytes) → IsCheckedUpTo g window [] checker
 nothing_checked g window checker heard fresh = record {
   has_heard = heard;
   counted = λ bytes. fresh bytes ∙ ap (λ (l : List ℕ). differences g (l ++ bytes)) (sym (nothing_due AsFrames window));
@@ -24,7 +24,7 @@ nothing_checked g window checker heard fresh = record {
 pub all_written : (written bytes : List ℕ) → Grew (Some []) (Some written) bytes → written ≡ bytes
 all_written written bytes grew = cc grew
 
-module _ (g : Generating) (window : ℕ) (heard : List (List ℕ)) (old : Checker) (is : IsCheckedUpTo g window heard old) (written : List ℕ) where
+module _ {H : Type 0} (g : Generating) (window : ℕ) (heard : List (List ℕ)) (old : Checker H) (is : IsCheckedUpTo g window heard old) (written : List ℕ) where
   counted_behind : (due : List ℕ) → written ≡ due → (bytes : List ℕ) → counted_with old.comparison (written ++ bytes) ≡ differences g ((output_so_far window heard ++ due) ++ bytes)
   counted_behind due same bytes =
       is.counted (written ++ bytes)
@@ -32,7 +32,7 @@ module _ (g : Generating) (window : ℕ) (heard : List (List ℕ)) (old : Checke
       ∙ ap (differences g) (sym (append_assoc (output_so_far window heard) due bytes))
 
   -- one datagram more
-  pub one_checked : (new : Checker) (datagram : List ℕ) → HasHeard AsFrames new.receiver window (heard ++ datagram ∷ []) → Grew (Some []) (Some written) (newly_due AsFrames window heard datagram)
+  pub one_checked : (new : Checker H) (datagram : List ℕ) → HasHeard AsFrames new.receiver window (heard ++ datagram ∷ []) → Grew (Some []) (Some written) (newly_due AsFrames window heard datagram)
       → ((bytes : List ℕ) → counted_with new.comparison bytes ≡ counted_with old.comparison (written ++ bytes)) → IsCheckedUpTo g window (heard ++ datagram ∷ []) new
   one_checked new datagram has_heard wrote counts = record {
     has_heard = has_heard;

@@ -35,7 +35,7 @@ use Rattle.vc_types.specs.Settings.{within}
 
 -- ---- one frame
 
-module _ {F : Type 0} (g : Generating) (window : ℕ) (sent : List Planes) (frame : Planes) (old : Sender F) (checker : Checker) (behind : HasChecked g window sent old checker)
+module _ {F H : Type 0} (g : Generating) (window : ℕ) (sent : List Planes) (frame : Planes) (old : Sender F) (checker : Checker H) (behind : HasChecked g window sent old checker)
     (answers : Need → ℕ → Type 0) (as_chosen : (need : Need) (index : ℕ) → answers need index → index ≡ chosen_index (sent_by_default g.frames) need) where
   abbrev s : Sending
   s = sent_by_default g.frames
@@ -45,7 +45,7 @@ module _ {F : Type 0} (g : Generating) (window : ℕ) (sent : List Planes) (fram
     pub sent_behind : bytes_of_all datagrams ≡ next_sent s sent frame
     sent_behind = datagrams_are s answers as_chosen sent frame (numbers_of old) (numbers_of new) datagrams small behind.sent.numbers_are is
 
-    pub frame_checked : (next : Checker) → IsCheckedUpTo g window (frames_sent s sent ++ bytes_of_all datagrams) next → HasChecked g window (sent ++ frame ∷ []) new next
+    pub frame_checked : (next : Checker H) → IsCheckedUpTo g window (frames_sent s sent ++ bytes_of_all datagrams) next → HasChecked g window (sent ++ frame ∷ []) new next
     frame_checked next checked = record {
       sent = record {
         settings_are = ap sending_view same ∙ behind.sent.settings_are;
@@ -94,7 +94,7 @@ module _ (g : Generating) (known : IsTrue (within 1 4 g.frames.range)) (k state 
 
 -- ---- the end
 
-pub stream_checked : (g : Generating) (window : ℕ) (end : List ℕ) (checker : Checker) → end ≡ end_sent (sent_by_default g.frames) (all_generated g)
+pub stream_checked : {H : Type 0} (g : Generating) (window : ℕ) (end : List ℕ) (checker : Checker H) → end ≡ end_sent (sent_by_default g.frames) (all_generated g)
     → IsCheckedUpTo g window (frames_sent (sent_by_default g.frames) (all_generated g) ++ end ∷ []) checker → IsCheckedUpTo g window (checked_stream g) checker
 stream_checked g window end checker is checked =
     subst (λ (l : List (List ℕ)). IsCheckedUpTo g window l checker)
@@ -113,7 +113,7 @@ nothing_sent g sender settings same view numbers = record {
     first_numbers : ℕ → Numbers
     first_numbers seq = record { frame = 0; number = seq; timestamp = 0 }
 
-pub none_checked : {F : Type 0} (g : Generating) (window : ℕ) (sender : Sender F) (checker : Checker) → HasSentFrames g [] sender → IsCheckedUpTo g window [] checker → HasChecked g window (generated_frames (shape_of_frames g.frames) g.seed 0) sender checker
+pub none_checked : {F H : Type 0} (g : Generating) (window : ℕ) (sender : Sender F) (checker : Checker H) → HasSentFrames g [] sender → IsCheckedUpTo g window [] checker → HasChecked g window (generated_frames (shape_of_frames g.frames) g.seed 0) sender checker
 unfolding generated_frames
 none_checked g window sender checker sent checked = record {
   sent = sent;
@@ -121,7 +121,7 @@ none_checked g window sender checker sent checked = record {
 }
 
 -- one generated frame more
-pub one_more_checked : {F : Type 0} (g : Generating) (window k state : ℕ) (frame : Planes) (sender : Sender F) (checker : Checker) → state ≡ state_behind g.seed (k * frame_samples (shape_of_frames g.frames)) → frame ≡ generated_frame (shape_of_frames g.frames) state
+pub one_more_checked : {F H : Type 0} (g : Generating) (window k state : ℕ) (frame : Planes) (sender : Sender F) (checker : Checker H) → state ≡ state_behind g.seed (k * frame_samples (shape_of_frames g.frames)) → frame ≡ generated_frame (shape_of_frames g.frames) state
     → HasChecked g window (generated_frames (shape_of_frames g.frames) g.seed k ++ frame ∷ []) sender checker → HasChecked g window (generated_frames (shape_of_frames g.frames) g.seed (k + 1)) sender checker
 one_more_checked g window k state frame sender checker at is checked =
     let shape = shape_of_frames g.frames in

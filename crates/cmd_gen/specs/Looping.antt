@@ -22,8 +22,8 @@ pub record HasSentFrames {F : Type 0} (g : Generating) (frames : List Planes) (s
   pub sendable : AreSendable (sent_by_default g.frames) frames
 
 -- and what a receiver writes of them so far was compared
-pub record HasChecked {F : Type 0}
-    (g : Generating) (window : ℕ) (frames : List Planes) (sender : Sender F) (checker : Checker)
+pub record HasChecked {F H : Type 0}
+    (g : Generating) (window : ℕ) (frames : List Planes) (sender : Sender F) (checker : Checker H)
     : Type 0 where
   pub sent : HasSentFrames g frames sender
   pub checked : IsCheckedUpTo g window (frames_sent (sent_by_default g.frames) frames) checker
@@ -38,8 +38,8 @@ IsFrameRefused g frame (SliceTooLarge slice bytes) =
 IsFrameRefused g frame ending = ⊥
 
 -- one frame more
-abbrev pub ChecksFrame : {F : Type 0} → Generating → ℕ → List Planes → Planes → Sender F → Checker
-    → Result (Unit {0}) Ending → Type 0
+abbrev pub ChecksFrame : {F H : Type 0} → Generating → ℕ → List Planes → Planes → Sender F
+    → Checker H → Result (Unit {0}) Ending → Type 0
 ChecksFrame g window frames frame sender checker (Ok done) =
     HasChecked g window (frames ++ frame ∷ []) sender checker
 ChecksFrame g window frames frame sender checker (Err ending) = IsFrameRefused g frame ending
@@ -50,7 +50,7 @@ IsOneRefused g NoMemory = ⊤
 IsOneRefused g (SliceTooLarge slice bytes) = HasLargeSlice g slice bytes
 IsOneRefused g ending = ⊥
 
-abbrev pub ChecksFrames : {F : Type 0} → Generating → ℕ → Sender F → Checker
+abbrev pub ChecksFrames : {F H : Type 0} → Generating → ℕ → Sender F → Checker H
     → Result (Unit {0}) Ending → Type 0
 ChecksFrames g window sender checker (Ok done) =
     HasChecked g window (all_generated g) sender checker

@@ -13,21 +13,22 @@ use bytes::Bytes;
 use link_receiver::Receiver;
 use link_sender::Datagram;
 use std::alloc::Global;
+use std::thread::Threads;
 use vc_slice::Places;
 use vc_types::{GenSettings, NoMemory};
 
 /// Receives datagrams, and compares the frames that they let go with the generated ones. What one
 /// datagram lets go is kept in memory until it is compared, which no clause says.
 #[derive(Drop)]
-pub(crate) struct Checker {
+pub(crate) struct Checker<H> {
     alloc: Global,
-    pub(crate) receiver: Receiver,
+    pub(crate) receiver: Receiver<H>,
     comparison: Comparison,
 }
 
-impl Checker {
+impl<H: Threads + Copy> Checker<H> {
     /// Nothing was received.
-    pub(crate) fn new(alloc: Global, g: &GenSettings, window: u8) -> Checker
+    pub(crate) fn new(alloc: Global, threads: Option<H>, g: &GenSettings, window: u8) -> Checker<H>
         requires least { 2 ≤ window }
         requires most { window ≤ 8 }
         ensures checked { IsCheckedUpTo (generating_view g.now) window [] result }
@@ -35,7 +36,7 @@ impl Checker {
     {
         Checker {
             alloc,
-            receiver: Receiver::new(alloc, window),
+            receiver: Receiver::new(alloc, threads, window),
             comparison: Comparison::new(g),
         }
     }

@@ -7,7 +7,8 @@ ghost use Rattle.link_gen.specs.Defaults.{all_generated, sent_by_default};
 ghost use Rattle.link_model.specs.Output.{full_output};
 ghost use Rattle.link_model.specs.SendingPictures.{IsFrame, wants_lengths};
 ghost use Rattle.link_receiver.specs.HeardLists.{AskedPlaces};
-ghost use Rattle.picture_encode.specs.Choosing.{AnswersAtMost127, ChoosesAs};
+ghost use Rattle.picture_encode.specs.Answering.{ChoosesAs};
+ghost use Rattle.picture_encode.specs.Choosing.{AnswersAtMost127};
 ghost use Rattle.link_slices.specs.Calls.{PlacesAreBelow};
 ghost use Rattle.vc_ports.specs.Changes.{changed};
 ghost use Rattle.vc_types.specs.Planes.{Planes, planes_in};
@@ -17,17 +18,19 @@ use crate::checker::Checker;
 use crate::samples_of;
 use cmd_send::refusal_ending;
 use link_gen::{default_settings, gen_frame};
+use link_receiver::threads_beside;
 use link_report::{Ending, Summary};
 use link_sender::{Chooser, Sender};
 use std::alloc::Global;
 use std::thread::Threads;
 use vc_slice::{Hands, Places};
-use vc_types::{GenSettings, NoMemory, Plane, SliceNeed};
+use vc_types::{GenSettings, IndexChoice, NoMemory, Plane, SliceNeed};
 
 /// Checks generated frames: sends each at index 0 and the other defaults, receives its datagrams
 /// with so many pictures open at a time (2 to 8) and so many workers, and counts the samples that
-/// come out otherwise than they went in. As many threads, at most 64, encode each frame. Nothing is
-/// written. One frame and its datagrams are kept in memory, which no clause says.
+/// come out otherwise than they went in. As many threads, at most 64, encode each frame, and with
+/// workers a received picture is transformed in four parts side by side. Nothing is written. One frame
+/// and its datagrams are kept in memory, which no clause says.
 pub fn check<H: Threads + Copy + Send + Sync, P: Hands>(
     rt: H,
     alloc: Global,
@@ -45,7 +48,7 @@ pub fn check<H: Threads + Copy + Send + Sync, P: Hands>(
     let Ok(()) = hands.start_workers(workers) else {
         return Err(Ending::NoMemory);
     };
-    let chooser = Chooser::new(false, |_need: &SliceNeed| 0);
+    let chooser = Chooser::by(IndexChoice::Index(0), |_need: &SliceNeed| 0);
     let different = check_by(rt, workers, alloc, g, window, chooser, hands)?;
     Ok(Summary::Compared {
         frames: u64::from(g.frames),
@@ -68,7 +71,7 @@ fn check_by<H: Threads + Copy + Send + Sync, F: Fn(&SliceNeed) -> u8 + Sync, P: 
     requires most { window ≤ 8 }
     requires callable { F.IsAlwaysCallable chooser.choose }
     requires range { AnswersAtMost127 F.Fn chooser.choose }
-    requires chooses { ChoosesAs F.Fn chooser.choose
+    requires chooses { ChoosesAs F.Fn chooser
         (sent_by_default (generating_view g.now).frames) }
     requires wants { chooser.wants_lens
         ≡ wants_lengths (sent_by_default (generating_view g.now).frames).choice }
@@ -79,7 +82,7 @@ fn check_by<H: Threads + Copy + Send + Sync, F: Fn(&SliceNeed) -> u8 + Sync, P: 
     ensures told { AskedPlaces (P.told places.old) (P.told places.new) }
 {
     let mut sender = Sender::new(alloc, default_settings(g), chooser);
-    let mut checker = Checker::new(alloc, g, window);
+    let mut checker = Checker::new(alloc, threads_beside(rt, workers), g, window);
     check_all(rt, workers, alloc, g, &mut sender, &mut checker, places)
 }
 
@@ -90,12 +93,12 @@ fn check_all<H: Threads + Copy + Send + Sync, F: Fn(&SliceNeed) -> u8 + Sync, P:
     alloc: Global,
     g: &GenSettings,
     sender: &mut Sender<F>,
-    checker: &mut Checker,
+    checker: &mut Checker<H>,
     places: &mut P,
 ) -> Result<u64, Ending>
     requires callable { F.IsAlwaysCallable sender.old.chooser.choose }
     requires range { AnswersAtMost127 F.Fn sender.old.chooser.choose }
-    requires chooses { ChoosesAs F.Fn sender.old.chooser.choose
+    requires chooses { ChoosesAs F.Fn sender.old.chooser
         (sending_view sender.old.settings) }
     requires wants { sender.old.chooser.wants_lens ≡ wants_lengths sender.old.settings.choice }
     requires sent { HasSentFrames (generating_view g.now) [] sender.old }
@@ -123,12 +126,12 @@ fn check_frames<H: Threads + Copy + Send + Sync, F: Fn(&SliceNeed) -> u8 + Sync,
     alloc: Global,
     g: &GenSettings,
     sender: &mut Sender<F>,
-    checker: &mut Checker,
+    checker: &mut Checker<H>,
     places: &mut P,
 ) -> Result<(), Ending>
     requires callable { F.IsAlwaysCallable sender.old.chooser.choose }
     requires range { AnswersAtMost127 F.Fn sender.old.chooser.choose }
-    requires chooses { ChoosesAs F.Fn sender.old.chooser.choose
+    requires chooses { ChoosesAs F.Fn sender.old.chooser
         (sending_view sender.old.settings) }
     requires wants { sender.old.chooser.wants_lens ≡ wants_lengths sender.old.settings.choice }
     requires sent { HasSentFrames (generating_view g.now) [] sender.old }
@@ -156,12 +159,12 @@ fn check_frame<H: Threads + Copy + Send + Sync, F: Fn(&SliceNeed) -> u8 + Sync, 
     workers: u32,
     frame: &[Plane; 3],
     sender: &mut Sender<F>,
-    checker: &mut Checker,
+    checker: &mut Checker<H>,
     places: &mut P,
 ) -> Result<(), Ending>
     requires callable { F.IsAlwaysCallable sender.old.chooser.choose }
     requires range { AnswersAtMost127 F.Fn sender.old.chooser.choose }
-    requires chooses { ChoosesAs F.Fn sender.old.chooser.choose
+    requires chooses { ChoosesAs F.Fn sender.old.chooser
         (sending_view sender.old.settings) }
     requires wants { sender.old.chooser.wants_lens ≡ wants_lengths sender.old.settings.choice }
     requires sizes { IsFrame (sending_view sender.old.settings) (planes_in frame.now) }
@@ -184,9 +187,9 @@ fn check_frame<H: Threads + Copy + Send + Sync, F: Fn(&SliceNeed) -> u8 + Sync, 
 }
 
 // Sends and receives the end of the sequence, and answers how many samples differ.
-fn finish<F: Fn(&SliceNeed) -> u8, P: Places>(
+fn finish<H: Threads + Copy, F: Fn(&SliceNeed) -> u8, P: Places>(
     sender: &mut Sender<F>,
-    checker: &mut Checker,
+    checker: &mut Checker<H>,
     places: &mut P,
 ) -> Result<u64, NoMemory>
     requires below { PlacesAreBelow (P.bound places.old) checker.old.receiver.reception.out }

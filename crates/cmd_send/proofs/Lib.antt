@@ -8,7 +8,6 @@ pub mod Numbering
 pub mod PuttingAll
 pub mod TakingFrames
 pub mod FrameSizes
-pub mod FirstFitting
 pub mod LoopSteps
 pub mod Carrying
 pub mod FramesComplete

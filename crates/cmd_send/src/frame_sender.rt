@@ -1,7 +1,8 @@
 ghost use Rattle.std.specs.Prelude.{◌≡◌, ◌+◌, ◌<◌, ◌^◌, [], ◌∷◌, List, OnOk, length};
 ghost use Rattle.cmd_send.specs.Steps.{IsBehindFrames, TakesFrame, Finishes, put_ending, refusal_ending};
 ghost use Rattle.link_model.specs.SendingPictures.{IsFrame, wants_lengths};
-ghost use Rattle.picture_encode.specs.Choosing.{AnswersAtMost127, ChoosesAs};
+ghost use Rattle.picture_encode.specs.Answering.{ChoosesAs};
+ghost use Rattle.picture_encode.specs.Choosing.{AnswersAtMost127};
 ghost use Rattle.vc_types.specs.Planes.{Planes, planes_in};
 ghost use Rattle.vc_types.specs.SenderSettings.{sending_view};
 
@@ -55,7 +56,7 @@ impl<F: Fn(&SliceNeed) -> u8 + Sync> FrameSender<F> {
     ) -> Result<(), Ending>
         requires callable { F.IsAlwaysCallable self.old.sender.chooser.choose }
         requires range { AnswersAtMost127 F.Fn self.old.sender.chooser.choose }
-        requires chooses { ChoosesAs F.Fn self.old.sender.chooser.choose
+        requires chooses { ChoosesAs F.Fn self.old.sender.chooser
             (sending_view self.old.sender.settings) }
         requires wants { self.old.sender.chooser.wants_lens
             ≡ wants_lengths self.old.sender.settings.choice }

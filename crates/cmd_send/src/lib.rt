@@ -2,7 +2,6 @@
 //! datagrams go.
 #![tactic(auto)]
 
-mod fitting;
 mod frame_sender;
 mod into_capture;
 mod over_wire;

@@ -4,13 +4,13 @@ ghost use Rattle.cmd_send.specs.FramesSent.{frame_shape};
 ghost use Rattle.cmd_send.specs.Sends.{SendsFrames};
 ghost use Rattle.cmd_send.specs.Steps.{IsBehindFrames, ReadsFrames, unread_ending};
 ghost use Rattle.link_model.specs.SendingPictures.{wants_lengths};
-ghost use Rattle.picture_encode.specs.Choosing.{AnswersAtMost127, ChoosesAs};
+ghost use Rattle.picture_encode.specs.Answering.{ChoosesAs};
+ghost use Rattle.picture_encode.specs.Choosing.{AnswersAtMost127};
 ghost use Rattle.vc_ports.specs.Changes.{input_of};
 ghost use Rattle.vc_ports.specs.Faults.{HasCause};
 ghost use Rattle.vc_types.specs.Limits.{shape_fits};
 ghost use Rattle.vc_types.specs.SenderSettings.{sending_view};
 
-use crate::fitting::{least_fitting, share_fitting};
 use crate::frame_sender::FrameSender;
 use crate::shape::frame_shape;
 use crate::totals::Totals;
@@ -21,7 +21,7 @@ use link_sender::Chooser;
 use std::alloc::Global;
 use std::thread::Threads;
 use vc_ports::{Filled, Pace, Source, fill};
-use vc_types::{IndexChoice, SendSettings, Shape, SliceNeed};
+use vc_types::{SendSettings, Shape, SliceNeed};
 
 /// Sends at most `frames` raw frames: reads them one after another, up to one that is refused or the end of
 /// the input, puts the datagrams that carry each into the outlet, and at the end of the input that of the end
@@ -44,21 +44,8 @@ pub fn send_frames<H: Threads + Copy + Send + Sync, S: Source, O: Outlet, P: Pac
         (input_of S.left S.faults input.old input.new)
         (O.carried outlet.old outlet.new) (O.broke outlet.old outlet.new) }
 {
-    match s.choice {
-        IndexChoice::Index(index) => {
-            let chooser = Chooser::new(false, |_need: &SliceNeed| index);
-            send_by(rt, workers, alloc, s, frames, chooser, input, outlet, pace)
-        }
-        IndexChoice::Fit(bytes) => {
-            let bytes = u64::from(bytes);
-            let chooser = Chooser::new(true, |need: &SliceNeed| least_fitting(&need.lens, bytes));
-            send_by(rt, workers, alloc, s, frames, chooser, input, outlet, pace)
-        }
-        IndexChoice::Budget(bytes) => {
-            let chooser = Chooser::new(true, |need: &SliceNeed| share_fitting(s, bytes, need));
-            send_by(rt, workers, alloc, s, frames, chooser, input, outlet, pace)
-        }
-    }
+    let chooser = Chooser::by(s.choice, |_need: &SliceNeed| 0);
+    send_by(rt, workers, alloc, s, frames, chooser, input, outlet, pace)
 }
 
 // The same by a chooser that chooses as the settings do.
@@ -81,7 +68,7 @@ fn send_by<
 ) -> Result<Totals, Ending>
     requires callable { F.IsAlwaysCallable chooser.choose }
     requires range { AnswersAtMost127 F.Fn chooser.choose }
-    requires chooses { ChoosesAs F.Fn chooser.choose (sending_view s.now) }
+    requires chooses { ChoosesAs F.Fn chooser (sending_view s.now) }
     requires wants { chooser.wants_lens ≡ wants_lengths s.now.choice }
     requires ready { O.is_ready outlet.old }
     ensures { SendsFrames (sending_view s.now) frames (sent_answer result)
@@ -121,7 +108,7 @@ fn send_each<
 ) -> Result<(), Ending>
     requires callable { F.IsAlwaysCallable sender.old.sender.chooser.choose }
     requires range { AnswersAtMost127 F.Fn sender.old.sender.chooser.choose }
-    requires chooses { ChoosesAs F.Fn sender.old.sender.chooser.choose
+    requires chooses { ChoosesAs F.Fn sender.old.sender.chooser
         (sending_view sender.old.sender.settings) }
     requires wants { sender.old.sender.chooser.wants_lens
         ≡ wants_lengths sender.old.sender.settings.choice }

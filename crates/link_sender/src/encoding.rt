@@ -2,7 +2,8 @@ ghost use Rattle.std.specs.Prelude.{◌≡◌, None};
 ghost use Rattle.link_model.specs.SendingFaults.{first_sample_fault};
 ghost use Rattle.link_model.specs.SendingPictures.{IsFrame, sent_parameters};
 ghost use Rattle.link_sender.specs.Sent.{EncodesFrame};
-ghost use Rattle.picture_encode.specs.Choosing.{AnswersAtMost127, AnswersNeed};
+ghost use Rattle.picture_encode.specs.Answering.{Answers};
+ghost use Rattle.picture_encode.specs.Choosing.{AnswersAtMost127};
 ghost use Rattle.vc_types.specs.Planes.{planes_in};
 ghost use Rattle.vc_types.specs.SenderSettings.{sending_view};
 ghost use Rattle.vc_types.specs.TransformParameters.{parameters_of};
@@ -38,7 +39,7 @@ pub(crate) fn encode_frame<F: Fn(&SliceNeed) -> u8>(
     requires plan { parameters_of plan.now ≡ sent_parameters (sending_view s.now) }
     requires sizes { IsFrame (sending_view s.now) (planes_in frame.now) }
     requires samples { first_sample_fault (sending_view s.now) (planes_in frame.now) ≡ None }
-    ensures { EncodesFrame (AnswersNeed F.Fn chooser.now.choose) chooser.now.wants_lens
+    ensures { EncodesFrame (Answers F.Fn (sending_view s.now) chooser.now) chooser.now.wants_lens
         (sending_view s.now) (planes_in frame.now) result }
 {
     if !s.fields {
@@ -73,7 +74,7 @@ pub(crate) fn encode_frame_joined<H: Threads + Copy + Send + Sync, F: Fn(&SliceN
     requires plan { parameters_of plan.now ≡ sent_parameters (sending_view s.now) }
     requires sizes { IsFrame (sending_view s.now) (planes_in frame.now) }
     requires samples { first_sample_fault (sending_view s.now) (planes_in frame.now) ≡ None }
-    ensures { EncodesFrame (AnswersNeed F.Fn chooser.now.choose) chooser.now.wants_lens
+    ensures { EncodesFrame (Answers F.Fn (sending_view s.now) chooser.now) chooser.now.wants_lens
         (sending_view s.now) (planes_in frame.now) result }
 {
     if !s.fields {

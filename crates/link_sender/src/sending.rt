@@ -6,7 +6,8 @@ ghost use Rattle.link_sender.specs.Packing.{bytes_of_all, packing_of, picture_at
 ghost use Rattle.link_sender.specs.Sent.{ArePictures, IsPicture, SendsFrame};
 ghost use Rattle.link_sender.specs.Sent.{coded_frame_outgoing, coded_outgoing, numbers_behind};
 ghost use Rattle.link_sender.specs.State.{numbers_of, EndsSequence};
-ghost use Rattle.picture_encode.specs.Choosing.{AnswersAtMost127, AnswersNeed};
+ghost use Rattle.picture_encode.specs.Answering.{Answers};
+ghost use Rattle.picture_encode.specs.Choosing.{AnswersAtMost127};
 ghost use Rattle.picture_encode.specs.Encoded.{slice_bytes};
 ghost use Rattle.vc_types.specs.Bits.{bits_of};
 ghost use Rattle.vc_types.specs.Planes.{planes_in};
@@ -62,7 +63,7 @@ impl<F: Fn(&SliceNeed) -> u8> Sender<F> {
         requires sizes { IsFrame (sending_view self.old.settings) (planes_in frame.now) }
         ensures settings { self.new.settings ≡ self.old.settings }
         ensures chooser { self.new.chooser ≡ self.old.chooser }
-        ensures value { SendsFrame (AnswersNeed F.Fn self.old.chooser.choose)
+        ensures value { SendsFrame (Answers F.Fn (sending_view self.old.settings) self.old.chooser)
             self.old.chooser.wants_lens (sending_view self.old.settings) (planes_in frame.now)
             (numbers_of self.old) (numbers_of self.new) result }
     {
@@ -219,7 +220,7 @@ impl<F: Fn(&SliceNeed) -> u8 + Sync> Sender<F> {
         requires sizes { IsFrame (sending_view self.old.settings) (planes_in frame.now) }
         ensures settings { self.new.settings ≡ self.old.settings }
         ensures chooser { self.new.chooser ≡ self.old.chooser }
-        ensures value { SendsFrame (AnswersNeed F.Fn self.old.chooser.choose)
+        ensures value { SendsFrame (Answers F.Fn (sending_view self.old.settings) self.old.chooser)
             self.old.chooser.wants_lens (sending_view self.old.settings) (planes_in frame.now)
             (numbers_of self.old) (numbers_of self.new) result }
     {

@@ -5,15 +5,17 @@ use Rattle.std.specs.Global.{Vec}
 use Rattle.std.specs.List.{range_with_len}
 use Rattle.std.proofs.lemmas.Bool.Decides.{nat_tests}
 use Rattle.link_model.specs.SendingFaults.{is_too_large}
-use Rattle.link_model.specs.SendingPictures.{packed_bits, sent_parameters, sent_coefficients, sent_length, sent_slice, slice_room, told_lengths, need_of}
+use Rattle.link_model.specs.SendingPictures.{budget_share, chosen_by, least_fitting, packed_bits, sent_parameters, sent_coefficients, sent_length, sent_slice, slice_room, told_lengths, need_of}
 use Rattle.picture_encode.specs.Encoded.{IsEncodedAt, IsTooLargeAt, RefusesAt, Chooses, IsRefusedSlice}
 use Rattle.picture_encode.specs.declared.refusal.SliceRefusal.{SliceRefusal}
 use Rattle.picture_encode.specs.declared.refusal.SliceRefusal.TheVariants.{SliceTooLarge, NoMemory}
 use Rattle.vc_types.specs.Bits.{bits_of}
 use Rattle.vc_types.specs.Encoding.{encoded_length, encoded_slice, is_too_long}
+use Rattle.vc_types.specs.declared.choice.IndexChoice.TheVariants.{Fit, Budget}
 use Rattle.vc_types.specs.Planes.{Planes}
 use Rattle.vc_types.specs.SenderSettings.{Sending}
 use Rattle.vc_types.specs.Slices.{Coefficients}
+use Rattle.vc_types.specs.Subbands.{slice_count}
 use Rattle.vc_types.specs.TransformParameters.{Parameters}
 use Rattle.vc_types.specs.declared.memory.NoMemory as memory
 use Rattle.vc_slice.specs.Refusals.{IsRefusal}
@@ -105,6 +107,30 @@ unfolding need_of
 told_need s wanted planes slice p lens own told =
     let all = told ∙ ap (λ (q : Parameters). told_lengths wanted q planes slice) own in
     λ i. record { slice = slice; room = s.size - 32; lengths = all i }
+
+-- the lengths at all indices are those of the need
+pub told_at : (s : Sending) (planes : Planes) (slice : ℕ) (p : Parameters) (c : Coefficients) → p ≡ sent_parameters s → c ≡ sent_coefficients p planes slice
+    → map (λ index. encoded_length p slice index c) (range_with_len 0 128) ≡ (need_of s true planes slice).lengths
+unfolding need_of sent_length
+told_at s planes slice p c own same =
+    ap (λ (d : Coefficients). map (λ index. encoded_length p slice index d) (range_with_len 0 128)) same
+    ∙ ap (λ (q : Parameters). told_lengths true q planes slice) own
+
+-- the least index that fits is the one that a choice says
+module _ (s : Sending) (planes : Planes) (slice : ℕ) (p : Parameters) (c : Coefficients) (own : p ≡ sent_parameters s) (same : c ≡ sent_coefficients p planes slice) (bytes share index : ℕ)
+    (is : index ≡ least_fitting share (map (λ q. encoded_length p slice q c) (range_with_len 0 128))) where
+  by_need : index ≡ least_fitting share (need_of s true planes slice).lengths
+  by_need = is ∙ ap (least_fitting share) (told_at s planes slice p c own same)
+
+  pub fit_is : share ≡ bytes → index ≡ chosen_by (slice_count (sent_parameters s)) (Fit bytes) (need_of s true planes slice)
+  fit_is each = by_need ∙ ap (λ (b : ℕ). least_fitting b (need_of s true planes slice).lengths) each
+
+  pub budget_is : share ≡ budget_share bytes (slice_count p) slice → index ≡ chosen_by (slice_count (sent_parameters s)) (Budget bytes) (need_of s true planes slice)
+  unfolding need_of
+  budget_is each =
+      by_need
+      ∙ ap (λ (b : ℕ). least_fitting b (need_of s true planes slice).lengths) each
+      ∙ ap (λ (q : Parameters). least_fitting (budget_share bytes (slice_count q) slice) (need_of s true planes slice).lengths) own
 
 pub refused_at : (choice : Chooses) (wanted : Bool) (s : Sending) (planes : Planes) (slice index : ℕ) (e : SliceRefusal) → choice (need_of s wanted planes slice) index → RefusesAt s planes slice index e → IsRefusedSlice choice wanted s planes slice e
 refused_at choice wanted s planes slice index (SliceTooLarge n bytes) answer h = (index, answer, h)

@@ -12,3 +12,5 @@ mod FirstSlices
 mod PlanFacts
 mod BandParts
 mod CopiedSlices
+mod LengthsFall
+mod LeastFitting

@@ -1,4 +1,5 @@
 pub mod Choosing
+pub mod Answering
 pub mod Refusals
 pub mod Grids
 pub mod PartsInGrids

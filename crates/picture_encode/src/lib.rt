@@ -2,6 +2,7 @@
 #![tactic(auto)]
 
 mod chooser;
+mod fitting;
 mod gathering;
 mod grids;
 mod parts;

@@ -1,5 +1,6 @@
 ghost use Rattle.std.specs.Prelude.{◌≡◌, ◌+◌, ◌<◌, ◌≤◌, IfOk, vec_len};
-ghost use Rattle.picture_encode.specs.Choosing.{AnswersAtMost127, AnswersNeed};
+ghost use Rattle.picture_encode.specs.Answering.{Answers};
+ghost use Rattle.picture_encode.specs.Choosing.{AnswersAtMost127};
 ghost use Rattle.picture_encode.specs.Encoded.{EncodesSlices};
 ghost use Rattle.picture_encode.specs.Grids.{AreGrids, HaveCoefficients};
 ghost use Rattle.picture_encode.specs.Parts.{EncodesPart, EncodesParts};
@@ -69,16 +70,18 @@ pub(crate) fn encode_slices<F: Fn(&SliceNeed) -> u8>(
     requires grids { AreGrids (parameters_of plan.now) grids.now }
     requires within { part.to ≤ slice_count (parameters_of plan.now) }
     ensures { (planes : Planes) → HaveCoefficients (parameters_of plan.now) planes grids.now
-        → EncodesSlices (AnswersNeed F.Fn chooser.now.choose) chooser.now.wants_lens
+        → EncodesSlices (Answers F.Fn (sending_view s.now) chooser.now) chooser.now.wants_lens
         (sending_view s.now) planes part.from part.to result }
 {
     let from = part.from;
     let to = part.to;
     let mut slices = Vec::with_capacity(alloc, (to - from) as usize)?;
+    let mut near = 0;
     for slice in from..to {
         let parts = SliceParts::new(plan, slice);
         let sent = SentSlice { s, parts };
-        let encoded = encode_slice(alloc, &sent, chooser, grids)?;
+        let encoded = encode_slice(alloc, &sent, chooser, grids, near)?;
+        near = encoded.index;
         push(&mut slices, encoded)?;
     }
     Ok(slices)
@@ -100,7 +103,7 @@ fn encode_part<F: Fn(&SliceNeed) -> u8>(
     requires grids { AreGrids (parameters_of plan.now) grids.now }
     requires number { number < parts }
     requires few { parts ≤ 64 }
-    ensures { EncodesPart (AnswersNeed F.Fn chooser.now.choose) chooser.now.wants_lens
+    ensures { EncodesPart (Answers F.Fn (sending_view s.now) chooser.now) chooser.now.wants_lens
         (sending_view s.now) (parameters_of plan.now) grids.now parts number result }
 {
     let count = plan.slices_x * plan.slices_y;
@@ -124,7 +127,7 @@ fn encode_each<H: Threads + Sync, F: Fn(&SliceNeed) -> u8 + Sync>(
     requires grids { AreGrids (parameters_of plan.now) grids.now }
     requires few { parts ≤ 64 }
     ensures len { IfOk result (λ answers. vec_len answers ≡ parts) }
-    ensures each { IfOk result (λ answers. EncodesParts (AnswersNeed F.Fn chooser.now.choose)
+    ensures each { IfOk result (λ answers. EncodesParts (Answers F.Fn (sending_view s.now) chooser.now)
         chooser.now.wants_lens (sending_view s.now) (parameters_of plan.now) grids.now parts
         answers.items) }
 {
@@ -135,7 +138,7 @@ fn encode_each<H: Threads + Sync, F: Fn(&SliceNeed) -> u8 + Sync>(
         requires grids { AreGrids (parameters_of plan.now) grids.now }
         requires number { number < parts }
         requires few { parts ≤ 64 }
-        ensures { EncodesPart (AnswersNeed F.Fn chooser.entry.now.choose)
+        ensures { EncodesPart (Answers F.Fn (sending_view s.entry.now) chooser.entry.now)
             chooser.entry.now.wants_lens (sending_view s.entry.now)
             (parameters_of plan.entry.now) grids.entry.now parts number result }
     { encode_part(alloc, s, plan, chooser, grids, number, parts) };
@@ -162,7 +165,7 @@ pub(crate) fn encode_parts<H: Threads + Sync, F: Fn(&SliceNeed) -> u8 + Sync>(
     requires some { 0 < parts }
     requires few { parts ≤ 64 }
     ensures { (planes : Planes) → HaveCoefficients (parameters_of plan.now) planes grids.now
-        → EncodesSlices (AnswersNeed F.Fn chooser.now.choose) chooser.now.wants_lens
+        → EncodesSlices (Answers F.Fn (sending_view s.now) chooser.now) chooser.now.wants_lens
         (sending_view s.now) planes 0 (slice_count (parameters_of plan.now)) result }
 {
     let answers = encode_each(rt, alloc, s, plan, chooser, grids, parts)?;

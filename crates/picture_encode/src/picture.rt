@@ -1,6 +1,7 @@
 ghost use Rattle.std.specs.Prelude.{◌≡◌, IfOk, IfErr};
 ghost use Rattle.link_model.specs.SendingPictures.{sent_parameters};
-ghost use Rattle.picture_encode.specs.Choosing.{AnswersAtMost127, AnswersNeed};
+ghost use Rattle.picture_encode.specs.Answering.{Answers};
+ghost use Rattle.picture_encode.specs.Choosing.{AnswersAtMost127};
 ghost use Rattle.picture_encode.specs.Encoded.{AreFirstSlices, IsRefusedPicture};
 ghost use Rattle.picture_encode.specs.Shapes.{CanBeTransformed};
 ghost use Rattle.vc_types.specs.Planes.{planes_in};
@@ -40,10 +41,10 @@ pub fn encode_picture<F: Fn(&SliceNeed) -> u8>(
     requires plan { parameters_of plan.now ≡ sent_parameters (sending_view s.now) }
     requires planes { CanBeTransformed (parameters_of plan.now) (planes_in planes.now) }
     ensures encoded { IfOk result (λ slices. AreFirstSlices
-        (AnswersNeed F.Fn chooser.now.choose) chooser.now.wants_lens (sending_view s.now)
+        (Answers F.Fn (sending_view s.now) chooser.now) chooser.now.wants_lens (sending_view s.now)
         (planes_in planes.now) (slice_count (parameters_of plan.now)) slices.items) }
     ensures refused { IfErr result (λ e. IsRefusedPicture
-        (AnswersNeed F.Fn chooser.now.choose) chooser.now.wants_lens (sending_view s.now)
+        (Answers F.Fn (sending_view s.now) chooser.now) chooser.now.wants_lens (sending_view s.now)
         (planes_in planes.now) e) }
 {
     let used = replace(grids, PictureGrids::new(alloc));
@@ -72,10 +73,10 @@ pub fn encode_picture_joined<H: Threads + Copy + Send + Sync, F: Fn(&SliceNeed) 
     requires plan { parameters_of plan.now ≡ sent_parameters (sending_view s.now) }
     requires planes { CanBeTransformed (parameters_of plan.now) (planes_in planes.now) }
     ensures encoded { IfOk result (λ slices. AreFirstSlices
-        (AnswersNeed F.Fn chooser.now.choose) chooser.now.wants_lens (sending_view s.now)
+        (Answers F.Fn (sending_view s.now) chooser.now) chooser.now.wants_lens (sending_view s.now)
         (planes_in planes.now) (slice_count (parameters_of plan.now)) slices.items) }
     ensures refused { IfErr result (λ e. IsRefusedPicture
-        (AnswersNeed F.Fn chooser.now.choose) chooser.now.wants_lens (sending_view s.now)
+        (Answers F.Fn (sending_view s.now) chooser.now) chooser.now.wants_lens (sending_view s.now)
         (planes_in planes.now) e) }
 {
     if workers < 2 {

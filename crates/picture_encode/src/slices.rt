@@ -1,5 +1,7 @@
-ghost use Rattle.std.specs.Prelude.{◌≡◌, ◌≤◌, [], ◌∷◌, ◌++◌, IfOk, IfErr, OnOk};
-ghost use Rattle.link_model.specs.SendingPictures.{packed_bits, need_of, sent_parameters, told_lengths};
+ghost use Rattle.std.specs.Prelude.{◌≡◌, ◌≤◌, [], ◌∷◌, ◌++◌, IfOk, IfErr, IsTrue, OnOk};
+ghost use Rattle.link_model.specs.SendingPictures.{chosen_by, packed_bits, need_of, sent_parameters};
+ghost use Rattle.link_model.specs.SendingPictures.{told_lengths, wants_lengths};
+ghost use Rattle.picture_encode.specs.Answering.{Answers};
 ghost use Rattle.picture_encode.specs.Choosing.{AnswersAtMost127, AnswersNeed};
 ghost use Rattle.picture_encode.specs.Encoded.{IsEncodedAt, RefusesAt, IsEncoded, IsRefusedSlice};
 ghost use Rattle.picture_encode.specs.Grids.{HaveCoefficients};
@@ -9,15 +11,18 @@ ghost use Rattle.vc_slice.specs.Bands.{AreCoefficients};
 ghost use Rattle.vc_types.specs.Bits.{bits_of};
 ghost use Rattle.vc_types.specs.Planes.{Planes};
 ghost use Rattle.vc_types.specs.SenderSettings.{sending_view};
+ghost use Rattle.vc_types.specs.Settings.{choice_fits};
+ghost use Rattle.vc_types.specs.Subbands.{slice_count};
 ghost use Rattle.vc_types.specs.TransformParameters.{parameters_of};
 
 use crate::chooser::Chooser;
+use crate::fitting::{budget_share, least_index};
 use crate::gathering::gather;
 use crate::grids::PictureGrids;
 use crate::refusal::SliceRefusal;
 use std::alloc::Global;
-use vc_slice::{EncodeRefusal, SliceCoeffs, SliceParts, encode, encoded_lens};
-use vc_types::{NoMemory, SendSettings, SliceNeed};
+use vc_slice::{EncodeRefusal, SliceCoeffs, SliceParts, encode_parts, encoded_lens};
+use vc_types::{IndexChoice, NoMemory, SendSettings, SliceNeed};
 
 // The heads of the packet and of the payload in front of slices have so many bytes.
 const HEADS: u32 = 32;
@@ -50,33 +55,81 @@ pub(crate) struct SentSlice<'a> {
     pub(crate) ghost sent: { parameters_of parts.plan ≡ sent_parameters (sending_view s.now) },
 }
 
-/// Encodes a slice at the index that the chooser answers.
+/// Encodes a slice at the index that the chooser answers, which may be near another.
 pub(crate) fn encode_slice<F: Fn(&SliceNeed) -> u8>(
     alloc: Global,
     sent: &SentSlice<'_>,
     chooser: &Chooser<F>,
     grids: &PictureGrids,
+    near: u8,
 ) -> Result<EncodedSlice, SliceRefusal>
     requires callable { F.IsAlwaysCallable chooser.now.choose }
     requires range { AnswersAtMost127 F.Fn chooser.now.choose }
     requires grids { AreGrids sent.now.parts grids.now }
     ensures encoded { IfOk result (λ e. (planes : Planes)
         → HaveCoefficients (parameters_of sent.now.parts.plan) planes grids.now
-        → IsEncoded (AnswersNeed F.Fn chooser.now.choose) chooser.now.wants_lens
-        (sending_view sent.now.s.now) planes sent.now.parts.slice e) }
+        → IsEncoded (Answers F.Fn (sending_view sent.now.s.now) chooser.now)
+        chooser.now.wants_lens (sending_view sent.now.s.now) planes sent.now.parts.slice e) }
     ensures refused { IfErr result (λ e. (planes : Planes)
         → HaveCoefficients (parameters_of sent.now.parts.plan) planes grids.now
-        → IsRefusedSlice (AnswersNeed F.Fn chooser.now.choose) chooser.now.wants_lens
-        (sending_view sent.now.s.now) planes sent.now.parts.slice e) }
+        → IsRefusedSlice (Answers F.Fn (sending_view sent.now.s.now) chooser.now)
+        chooser.now.wants_lens (sending_view sent.now.s.now) planes sent.now.parts.slice e) }
 {
     let coeffs = gather(alloc, &sent.parts, grids)?;
-    let index = choose(alloc, sent, chooser, &coeffs)?;
+    let index = choose(alloc, sent, chooser, &coeffs, near)?;
     let bytes = encode_at(alloc, sent, &coeffs, index)?;
     Ok(EncodedSlice { index, bytes })
 }
 
-// The index of a slice.
+// The index of a slice, which may be near another.
 fn choose<F: Fn(&SliceNeed) -> u8>(
+    alloc: Global,
+    sent: &SentSlice<'_>,
+    chooser: &Chooser<F>,
+    coeffs: &SliceCoeffs,
+    near: u8,
+) -> Result<u8, NoMemory>
+    requires callable { F.IsAlwaysCallable chooser.now.choose }
+    requires range { AnswersAtMost127 F.Fn chooser.now.choose }
+    requires coefficients { AreCoefficients sent.now.parts coeffs.now }
+    ensures answer { IfOk result (λ index. (planes : Planes) → AreOf planes sent.now.parts coeffs.now
+        → Answers F.Fn (sending_view sent.now.s.now) chooser.now (need_of (sending_view sent.now.s.now)
+        chooser.now.wants_lens planes sent.now.parts.slice) index) }
+    ensures range { IfOk result (λ index. index ≤ 127) }
+{
+    match chooser.by {
+        Some(choice) => Ok(chosen(sent, choice, coeffs, near)),
+        None => ask(alloc, sent, chooser, coeffs),
+    }
+}
+
+// The index of a slice by a choice, which may be near another.
+fn chosen(sent: &SentSlice<'_>, choice: IndexChoice, coeffs: &SliceCoeffs, near: u8) -> u8
+    requires coefficients { AreCoefficients sent.now.parts coeffs.now }
+    requires fits { IsTrue (choice_fits choice) }
+    ensures value { (planes : Planes) → AreOf planes sent.now.parts coeffs.now
+        → result ≡ chosen_by (slice_count (sent_parameters (sending_view sent.now.s.now))) choice
+        (need_of (sending_view sent.now.s.now) (wants_lengths choice) planes sent.now.parts.slice) }
+    ensures range { result ≤ 127 }
+{
+    let parts = &sent.parts;
+    match choice {
+        IndexChoice::Index(index) => index,
+        IndexChoice::Fit(bytes) => least_index(parts, coeffs, u64::from(bytes), near),
+        IndexChoice::Budget(bytes) => {
+            let slices = parts.plan.slices_x * parts.plan.slices_y;
+            least_index(
+                parts,
+                coeffs,
+                budget_share(bytes, slices, parts.slice),
+                near,
+            )
+        }
+    }
+}
+
+// The index that the function of a chooser answers on what it is told.
+fn ask<F: Fn(&SliceNeed) -> u8>(
     alloc: Global,
     sent: &SentSlice<'_>,
     chooser: &Chooser<F>,
@@ -132,7 +185,7 @@ fn encode_at(
         → RefusesAt (sending_view sent.now.s.now) planes sent.now.parts.slice index e) }
 {
     let slice = sent.parts.slice;
-    match encode(alloc, &sent.parts.plan, slice, coeffs, index) {
+    match encode_parts(alloc, &sent.parts, coeffs, index) {
         Ok(bytes) if bytes.len() <= (sent.s.size - HEADS) as usize => {
             bits_are_packed(&bytes);
             Ok(bytes)

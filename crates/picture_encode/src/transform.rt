@@ -16,7 +16,10 @@ use std::alloc::Global;
 use std::thread::{Threads, join};
 use vc_geometry::padded;
 use vc_types::{Component, NoMemory, Plan, Plane};
-use vc_wave::{forward, forward_fits_narrow, forward_narrow};
+use vc_wave::{
+    forward, forward_fits_narrow, forward_narrow, forward_narrow_joined, forward_room_len,
+    joined_forward_room_len,
+};
 
 /// The coefficients of a picture's planes, in the memory of other grids where that is as large: of
 /// one component after another.
@@ -37,8 +40,8 @@ pub(crate) fn transform_picture(
     })
 }
 
-/// The same, luma beside the colours, by join.
-pub(crate) fn transform_picture_joined<H: Threads>(
+/// The same, luma beside the colours, by join, and its highest level in two halves side by side.
+pub(crate) fn transform_picture_joined<H: Threads + Sync>(
     rt: &H,
     alloc: Global,
     plan: &Plan,
@@ -52,8 +55,8 @@ pub(crate) fn transform_picture_joined<H: Threads>(
     let PictureGrids { y, c1, c2 } = used;
     let (y, (c1, c2)) = join(
         rt,
-        || component(alloc, plan, planes, Component::Y, y),
-        || colours(alloc, plan, planes, c1, c2),
+        || component_joined(rt, alloc, plan, planes, Component::Y, y),
+        || colours(rt, alloc, plan, planes, c1, c2),
     );
     Ok(PictureGrids {
         y: y?,
@@ -62,26 +65,27 @@ pub(crate) fn transform_picture_joined<H: Threads>(
     })
 }
 
-// The coefficients of both colour components, one after another.
-fn colours(
+type Answer = Result<ComponentGrid, NoMemory>;
+
+// The coefficients of both colour components, side by side.
+fn colours<H: Threads>(
+    rt: &H,
     alloc: Global,
     plan: &Plan,
     planes: &[Plane; 3],
     c1: ComponentGrid,
     c2: ComponentGrid,
-) -> (
-    Result<ComponentGrid, NoMemory>,
-    Result<ComponentGrid, NoMemory>,
-)
+) -> (Answer, Answer)
     requires { CanBeTransformed (parameters_of plan.now) (planes_in planes.now) }
     ensures c1 { IfOk result.0
         (λ g. HasCoefficients (parameters_of plan.now) C1 (planes_in planes.now) g) }
     ensures c2 { IfOk result.1
         (λ g. HasCoefficients (parameters_of plan.now) C2 (planes_in planes.now) g) }
 {
-    (
-        component(alloc, plan, planes, Component::C1, c1),
-        component(alloc, plan, planes, Component::C2, c2),
+    join(
+        rt,
+        || component(alloc, plan, planes, Component::C1, c1),
+        || component(alloc, plan, planes, Component::C2, c2),
     )
 }
 
@@ -97,12 +101,48 @@ fn component(
     ensures { IfOk result
         (λ g. HasCoefficients (parameters_of plan.now) c (planes_in planes.now) g) }
 {
-    let plane = plane_in(planes, c);
     if forward_fits_narrow(plan, c) {
+        let plane = plane_in(planes, c);
         Ok(ComponentGrid::Narrow(narrow(alloc, plan, c, plane, used)?))
     } else {
-        Ok(ComponentGrid::Wide(forward(alloc, plan, c, plane)?))
+        wide(alloc, plan, planes, c)
     }
+}
+
+// The same, with the highest level in two halves side by side.
+fn component_joined<H: Threads>(
+    rt: &H,
+    alloc: Global,
+    plan: &Plan,
+    planes: &[Plane; 3],
+    c: Component,
+    used: ComponentGrid,
+) -> Result<ComponentGrid, NoMemory>
+    requires { CanBeTransformed (parameters_of plan.now) (planes_in planes.now) }
+    ensures { IfOk result
+        (λ g. HasCoefficients (parameters_of plan.now) c (planes_in planes.now) g) }
+{
+    if forward_fits_narrow(plan, c) {
+        let plane = plane_in(planes, c);
+        Ok(ComponentGrid::Narrow(narrow_joined(rt, alloc, plan, c, plane, used)?))
+    } else {
+        wide(alloc, plan, planes, c)
+    }
+}
+
+// The coefficients of a component, however wide they are.
+fn wide(
+    alloc: Global,
+    plan: &Plan,
+    planes: &[Plane; 3],
+    c: Component,
+) -> Result<ComponentGrid, NoMemory>
+    requires { CanBeTransformed (parameters_of plan.now) (planes_in planes.now) }
+    ensures { IfOk result
+        (λ g. HasCoefficients (parameters_of plan.now) c (planes_in planes.now) g) }
+{
+    let grid = forward(alloc, plan, c, plane_in(planes, c))?;
+    Ok(ComponentGrid::Wide(grid))
 }
 
 // The coefficients of a component in 32 bits, where they fit.
@@ -125,9 +165,37 @@ fn narrow(
         ≡ forward_transform (parameters_of plan.now) c (sample_at plane.now) x y) }
 {
     let (width, height) = padded(plan, c);
-    let mut line = vec![in alloc; 0i32; width as usize]?;
+    let mut room = vec![in alloc; 0i32; forward_room_len(plan, c)]?;
     let mut cells = reused(alloc, used, height as usize * width as usize)?;
-    forward_narrow(plan, c, plane, &mut cells, &mut line);
+    forward_narrow(plan, c, plane, &mut cells, &mut room);
+    are_small(&cells);
+    Ok(cells)
+}
+
+// The same, with the highest level in two halves side by side.
+fn narrow_joined<H: Threads>(
+    rt: &H,
+    alloc: Global,
+    plan: &Plan,
+    c: Component,
+    plane: &Plane,
+    used: ComponentGrid,
+) -> Result<Vec<i32>, NoMemory>
+    requires symmetric { IsTrue (is_symmetric (parameters_of plan.now)) }
+    requires plane { IsPlane (parameters_of plan.now) c plane.now }
+    requires narrow { IsTrue (forward_fits_narrow (parameters_of plan.now)
+        (2 ^ (plane_depth plan.now.shape c - 1))) }
+    ensures grid { IfOk result (λ cells. IsNarrowGrid (parameters_of plan.now) c cells.items) }
+    ensures value { IfOk result (λ cells. (x y : ℕ) → x < padded_width (parameters_of plan.now) c
+        → y < padded_height (parameters_of plan.now) c
+        → nested_in (parameters_of plan.now) c (padded_width (parameters_of plan.now) c)
+        cells.items x y
+        ≡ forward_transform (parameters_of plan.now) c (sample_at plane.now) x y) }
+{
+    let (width, height) = padded(plan, c);
+    let mut room = vec![in alloc; 0i32; joined_forward_room_len(plan, c)]?;
+    let mut cells = reused(alloc, used, height as usize * width as usize)?;
+    forward_narrow_joined(rt, plan, c, plane, &mut cells, &mut room);
     are_small(&cells);
     Ok(cells)
 }

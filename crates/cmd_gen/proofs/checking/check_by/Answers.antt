@@ -1,7 +1,7 @@
-use Rattle.std.proofs.Common.{ap, ◌∙◌}
+use Rattle.std.proofs.Common.{ap, ◌∙◌, subst, sym}
+use Rattle.picture_encode.specs.Answering.{ChoosesAs}
 use Rattle.cmd_gen.proofs.FrameSteps.{nothing_sent}
-use Rattle.vc_types.specs.declared.settings.SendSettings.{SendSettings}
-use Rattle.vc_types.specs.SenderSettings.{Sending, generating_view}
+use Rattle.vc_types.specs.SenderSettings.{generating_view, sending_view}
 use Rattle.cmd_gen.proofs.checking.check_by.Goals as goal
 
 pub check_all-requires-clause-sent : goal.check_all-requires-clause-sent
@@ -13,9 +13,9 @@ check_all-requires-clause-range g c = λ κs lives. rw c.new-sender.ensures.choo
 
 pub check_all-requires-clause-chooses : goal.check_all-requires-clause-chooses
 check_all-requires-clause-chooses g c = λ κs lives.
-    let choice = ap (λ (s : SendSettings). s.choice) c.new-sender.ensures.settings
-    ∙ ap (λ (s : Sending). s.choice) c.default_settings.ensures in
-    rw (c.new-sender.ensures.chooser, choice) c.requires.chooses
+    let settings = ap sending_view c.new-sender.ensures.settings ∙ c.default_settings.ensures in
+    subst (λ chooser. ChoosesAs g.F.Fn chooser (sending_view c.new-sender.result.settings)) (sym c.new-sender.ensures.chooser)
+    (subst (ChoosesAs g.F.Fn c.args.chooser) (sym settings) c.requires.chooses)
 
 pub returns-clause-checkable : goal.returns-clause-checkable
 returns-clause-checkable g c = c.check_all.ensures.checkable c.args.window c.new-checker.ensures.checked

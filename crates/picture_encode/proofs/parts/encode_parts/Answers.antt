@@ -4,7 +4,7 @@ use Rattle.std.proofs.lemmas.Iterator.Consumers.{YieldsList-turn, YieldsList-end
 use Rattle.vc_types.specs.SenderSettings.{sending_view}
 use Rattle.vc_types.specs.Subbands.{share_start, slice_count}
 use Rattle.vc_types.specs.TransformParameters.{parameters_of}
-use Rattle.picture_encode.specs.Choosing.{AnswersNeed}
+use Rattle.picture_encode.specs.Answering.{Answers}
 use Rattle.picture_encode.specs.declared.refusal.SliceRefusal.TheVariants.{NoMemory}
 use Rattle.picture_encode.proofs.SlicesInTurn.{none_encoded}
 use Rattle.picture_encode.proofs.JoinedParts.{first_share, part_joined, part_refused, all_joined}
@@ -18,7 +18,7 @@ returns-in_err-answers g c =
 pub loop-answer-init : goal.loop-answer-init
 loop-answer-init g c = λ planes has.
     let n = slice_count (parameters_of c.args.plan.now) in
-    none_encoded (AnswersNeed g.F.Fn c.args.chooser.now.choose) c.args.chooser.now.wants_lens (sending_view c.args.s.now) planes 0 (share_start n c.args.parts 0) c.new-all.result.items (first_share n c.args.parts c.requires.some) c.new-all.ensures.items
+    none_encoded (Answers g.F.Fn (sending_view c.args.s.now) c.args.chooser.now) c.args.chooser.now.wants_lens (sending_view c.args.s.now) planes 0 (share_start n c.args.parts 0) c.new-all.result.items (first_share n c.args.parts c.requires.some) c.new-all.ensures.items
 
 pub returns-in_err-more : goal.returns-in_err-more
 returns-in_err-more g c =
@@ -30,7 +30,7 @@ returns-in_err-more g c =
     c.loop-answer.yielded c.loop-answer.answer-iterator c.loop-answer.yielded_by c.next.result c.next.new.self answer c.in-Some.is c.next.ensures.steps in
     let same : c.from_residual-in_err-more.result ≡ Err e = search rules in
     rw same (λ planes has.
-    part_refused (AnswersNeed g.F.Fn c.args.chooser.now.choose) c.args.chooser.now.wants_lens (sending_view c.args.s.now) planes n c.args.parts answers.items c.loop-answer.yielded answer c.loop-answer.all.items c.requires.some
+    part_refused (Answers g.F.Fn (sending_view c.args.s.now) c.args.chooser.now) c.args.chooser.now.wants_lens (sending_view c.args.s.now) planes n c.args.parts answers.items c.loop-answer.yielded answer c.loop-answer.all.items c.requires.some
     (sym answers.ok.0 ∙ c.in_ok-answers.ensures.len) (λ part d below. c.in_ok-answers.ensures.each part d below planes has) turn (c.loop-answer.invariant planes has) e c.in_err-more.was)
 
 pub returns-in_err-append : goal.returns-in_err-append
@@ -46,7 +46,7 @@ loop-answer-preserved g c =
     let turn = YieldsList-turn (YieldsList-from_vec {s = c.into_iter-answer-iterator.result} answers.items (search rules) (search rules))
     c.loop-answer.yielded c.loop-answer.answer-iterator c.loop-answer.yielded_by c.next.result c.next.new.self answer c.in-Some.is c.next.ensures.steps in
     λ planes has.
-    part_joined (AnswersNeed g.F.Fn c.args.chooser.now.choose) c.args.chooser.now.wants_lens (sending_view c.args.s.now) planes n c.args.parts answers.items c.loop-answer.yielded answer c.loop-answer.all.items c.requires.some
+    part_joined (Answers g.F.Fn (sending_view c.args.s.now) c.args.chooser.now) c.args.chooser.now.wants_lens (sending_view c.args.s.now) planes n c.args.parts answers.items c.loop-answer.yielded answer c.loop-answer.all.items c.requires.some
     (sym answers.ok.0 ∙ c.in_ok-answers.ensures.len) (λ part d below. c.in_ok-answers.ensures.each part d below planes has) turn (c.loop-answer.invariant planes has) c.in_ok-more.more c.append.new.self.items c.in_ok-more.was c.in_ok-append.ensures.items
 
 pub returns : goal.returns
@@ -56,5 +56,5 @@ returns g c =
     let end = YieldsList-end (YieldsList-from_vec {s = c.into_iter-answer-iterator.result} answers.items (search rules) (search rules))
     c.loop-answer.yielded c.loop-answer.answer-iterator c.loop-answer.yielded_by c.next.result c.next.new.self c.in-None.is c.next.ensures.steps in
     λ planes has.
-    all_joined (AnswersNeed g.F.Fn c.args.chooser.now.choose) c.args.chooser.now.wants_lens (sending_view c.args.s.now) planes n c.args.parts (length c.loop-answer.yielded) c.loop-answer.all.items c.requires.some
+    all_joined (Answers g.F.Fn (sending_view c.args.s.now) c.args.chooser.now) c.args.chooser.now.wants_lens (sending_view c.args.s.now) planes n c.args.parts (length c.loop-answer.yielded) c.loop-answer.all.items c.requires.some
     (end.1 ∙ sym answers.ok.0 ∙ c.in_ok-answers.ensures.len) (c.loop-answer.invariant planes has)

@@ -1,7 +1,7 @@
 use Rattle.vc_types.specs.Planes.{Planes}
 use Rattle.vc_types.specs.SenderSettings.{sending_view}
 use Rattle.vc_types.specs.TransformParameters.{parameters_of}
-use Rattle.picture_encode.specs.Choosing.{AnswersNeed}
+use Rattle.picture_encode.specs.Answering.{Answers}
 use Rattle.picture_encode.specs.Encoded.{AreSlices}
 use Rattle.picture_encode.specs.Grids.{HaveCoefficients}
 use Rattle.picture_encode.proofs.parts.encode_slices.Given as goal
@@ -9,4 +9,4 @@ use Rattle.picture_encode.proofs.parts.encode_slices.Given as goal
 abbrev pub invariant-loop-slice : goal.invariant-loop-slice
 invariant-loop-slice g l =
     (planes : Planes) → HaveCoefficients (parameters_of l.plan) planes l.grids
-    → AreSlices (AnswersNeed g.F.Fn l.chooser.choose) l.chooser.wants_lens (sending_view l.s) planes l.fn.part.from l.slice l.slices.items
+    → AreSlices (Answers g.F.Fn (sending_view l.s) l.chooser) l.chooser.wants_lens (sending_view l.s) planes l.fn.part.from l.slice l.slices.items

@@ -3,7 +3,7 @@ use Rattle.vc_types.specs.Planes.{planes_in}
 use Rattle.vc_types.specs.SenderSettings.{sending_view}
 use Rattle.vc_types.specs.Subbands.{slice_count}
 use Rattle.vc_types.specs.TransformParameters.{Parameters, parameters_of}
-use Rattle.picture_encode.specs.Choosing.{AnswersNeed}
+use Rattle.picture_encode.specs.Answering.{Answers}
 use Rattle.picture_encode.specs.declared.refusal.SliceRefusal.TheVariants.{NoMemory}
 use Rattle.picture_encode.proofs.FirstSlices.{no_memory, picture_encoded, picture_not_encoded}
 use Rattle.picture_encode.proofs.picture.encode_picture_joined.Goals as goal
@@ -11,14 +11,14 @@ use Rattle.picture_encode.proofs.picture.encode_picture_joined.Goals as goal
 pub returns-in_err-grids-clause-refused : goal.returns-in_err-grids-clause-refused
 returns-in_err-grids-clause-refused g c =
     let same : c.from_residual.result ≡ Err NoMemory = search rules in
-    rw same (no_memory (AnswersNeed g.F.Fn c.args.chooser.now.choose) c.args.chooser.now.wants_lens (sending_view c.args.s.now) (planes_in c.args.planes.now))
+    rw same (no_memory (Answers g.F.Fn (sending_view c.args.s.now) c.args.chooser.now) c.args.chooser.now.wants_lens (sending_view c.args.s.now) (planes_in c.args.planes.now))
 
 pub returns-clause-encoded : goal.returns-clause-encoded
 returns-clause-encoded g c =
-    picture_encoded (AnswersNeed g.F.Fn c.args.chooser.now.choose) c.args.chooser.now.wants_lens (sending_view c.args.s.now) (planes_in c.args.planes.now) (slice_count (parameters_of c.args.plan.now)) c.encode_parts.result
+    picture_encoded (Answers g.F.Fn (sending_view c.args.s.now) c.args.chooser.now) c.args.chooser.now.wants_lens (sending_view c.args.s.now) (planes_in c.args.planes.now) (slice_count (parameters_of c.args.plan.now)) c.encode_parts.result
     (c.encode_parts.ensures (planes_in c.args.planes.now) c.in_ok-grids.ensures)
 
 pub returns-clause-refused : goal.returns-clause-refused
 returns-clause-refused g c =
-    picture_not_encoded (AnswersNeed g.F.Fn c.args.chooser.now.choose) c.args.chooser.now.wants_lens (sending_view c.args.s.now) (planes_in c.args.planes.now) (slice_count (parameters_of c.args.plan.now)) c.encode_parts.result
+    picture_not_encoded (Answers g.F.Fn (sending_view c.args.s.now) c.args.chooser.now) c.args.chooser.now.wants_lens (sending_view c.args.s.now) (planes_in c.args.planes.now) (slice_count (parameters_of c.args.plan.now)) c.encode_parts.result
     (ap (λ (p : Parameters). slice_count p) c.requires.plan) (c.encode_parts.ensures (planes_in c.args.planes.now) c.in_ok-grids.ensures)

@@ -2,7 +2,7 @@ use Rattle.std.proofs.Common.{◌≡◌, Err, rules, ◌∙◌}
 use Rattle.vc_types.specs.SenderSettings.{sending_view}
 use Rattle.vc_types.specs.TransformParameters.{parameters_of}
 use Rattle.vc_types.proofs.SliceCounts.{some_across}
-use Rattle.picture_encode.specs.Choosing.{AnswersNeed}
+use Rattle.picture_encode.specs.Answering.{Answers}
 use Rattle.picture_encode.proofs.Judged.{refused_at}
 use Rattle.picture_encode.proofs.SmallNumbers.{coefficients_are}
 use Rattle.picture_encode.proofs.slices.encode_slice.Goals as goal
@@ -16,7 +16,7 @@ returns-in_err-bytes-clause-refused g c =
     let same : c.from_residual-in_err-bytes.result ≡ Err e = search rules in
     rw same (λ planes has.
     let own = c.in_ok-coeffs.ensures.value ∙ coefficients_are p planes c.args.grids.now c.args.sent.now.parts.slice some c.args.sent.now.parts.in_plan has in
-    refused_at (AnswersNeed g.F.Fn c.args.chooser.now.choose) c.args.chooser.now.wants_lens (sending_view c.args.sent.now.s.now) planes c.args.sent.now.parts.slice c.in_ok-index.index e (c.in_ok-index.ensures.answer planes own) (c.in_err-bytes.ensures.refused planes own))
+    refused_at (Answers g.F.Fn (sending_view c.args.sent.now.s.now) c.args.chooser.now) c.args.chooser.now.wants_lens (sending_view c.args.sent.now.s.now) planes c.args.sent.now.parts.slice c.in_ok-index.index e (c.in_ok-index.ensures.answer planes own) (c.in_err-bytes.ensures.refused planes own))
 
 pub returns-clause-encoded : goal.returns-clause-encoded
 returns-clause-encoded g c =

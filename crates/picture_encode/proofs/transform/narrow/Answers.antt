@@ -7,7 +7,7 @@ use Rattle.vc_wave.proofs.TransformLaws.{no_levels}
 use Rattle.picture_encode.proofs.transform.narrow.Goals as goal
 
 -- the cells that were written are all of them
-written : (c : goal.After-drop-line-2)
+written : (c : goal.After-drop-room-2)
     → take c.in_ok-cells.cells.len (c.forward_narrow.new.cells ++ drop (length c.forward_narrow.new.cells) c.in_ok-cells.cells.items)
     ≡ c.forward_narrow.new.cells
 written c =

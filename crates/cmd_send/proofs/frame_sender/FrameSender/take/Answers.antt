@@ -8,7 +8,7 @@ use Rattle.cmd_send.proofs.TakingFrames.{sound, datagrams_are, numbers_are, fail
 use Rattle.link_model.specs.SendingPictures.{Need, chosen_index}
 use Rattle.link_report.specs.declared.ending.Ending.{Ending}
 use Rattle.link_sender.specs.Packing.{bytes_of_all}
-use Rattle.picture_encode.specs.Choosing.{AnswersNeed}
+use Rattle.picture_encode.specs.Answering.{Answers}
 use Rattle.vc_types.specs.Planes.{planes_in}
 use Rattle.vc_types.specs.SenderSettings.{sending_view}
 use Rattle.cmd_send.proofs.frame_sender.FrameSender.take.Goals as goal
@@ -17,8 +17,8 @@ pub put_all-requires-clause-room : goal.put_all-requires-clause-room
 put_all-requires-clause-room g c =
     let settings = c.args.self.now.sender.settings in
     let s = sending_view settings in
-    let answers = AnswersNeed g.F.Fn c.args.self.now.sender.chooser.choose in
-    let as_chosen : (need : Need) (index : ℕ) → answers need index → index ≡ chosen_index s need = λ need index a. c.requires.chooses a.0 index a.2 ∙ ap (chosen_index s) a.1 in
+    let answers = Answers g.F.Fn s c.args.self.now.sender.chooser in
+    let as_chosen : (need : Need) (index : ℕ) → answers need index → index ≡ chosen_index s need = c.requires.chooses in
     let value = rw c.requires.wants at c.in-Ok.ensures.value in
     let frame = planes_in c.args.frame.now in
     let behind = c.requires.behind in
@@ -29,8 +29,8 @@ pub returns-in-Ok-put_all-clause-value : goal.returns-in-Ok-put_all-clause-value
 returns-in-Ok-put_all-clause-value g c = λ sent small behind.
     let settings = c.args.self.now.sender.settings in
     let s = sending_view settings in
-    let answers = AnswersNeed g.F.Fn c.args.self.now.sender.chooser.choose in
-    let as_chosen : (need : Need) (index : ℕ) → answers need index → index ≡ chosen_index s need = λ need index a. c.requires.chooses a.0 index a.2 ∙ ap (chosen_index s) a.1 in
+    let answers = Answers g.F.Fn s c.args.self.now.sender.chooser in
+    let as_chosen : (need : Need) (index : ℕ) → answers need index → index ≡ chosen_index s need = c.requires.chooses in
     let value = rw c.requires.wants at c.in-Ok.ensures.value in
     let frame = planes_in c.args.frame.now in
     let due = ap bytes_of_all c.deref.ensures.value ∙ datagrams_are s answers as_chosen sent frame _ _ c.in-Ok.datagrams.items small behind.numbers_are value in
@@ -50,8 +50,8 @@ pub returns-in-Ok-clause-value : goal.returns-in-Ok-clause-value
 returns-in-Ok-clause-value g c = λ sent small behind.
     let settings = c.args.self.now.sender.settings in
     let s = sending_view settings in
-    let answers = AnswersNeed g.F.Fn c.args.self.now.sender.chooser.choose in
-    let as_chosen : (need : Need) (index : ℕ) → answers need index → index ≡ chosen_index s need = λ need index a. c.requires.chooses a.0 index a.2 ∙ ap (chosen_index s) a.1 in
+    let answers = Answers g.F.Fn s c.args.self.now.sender.chooser in
+    let as_chosen : (need : Need) (index : ℕ) → answers need index → index ≡ chosen_index s need = c.requires.chooses in
     let value = rw c.requires.wants at c.in-Ok.ensures.value in
     let frame = planes_in c.args.frame.now in
     let due = ap bytes_of_all c.deref.ensures.value ∙ datagrams_are s answers as_chosen sent frame _ _ c.in-Ok.datagrams.items small behind.numbers_are value in
@@ -65,8 +65,8 @@ pub returns-clause-value : goal.returns-clause-value
 returns-clause-value g c = λ sent small behind.
     let settings = c.args.self.now.sender.settings in
     let s = sending_view settings in
-    let answers = AnswersNeed g.F.Fn c.args.self.now.sender.chooser.choose in
-    let as_chosen : (need : Need) (index : ℕ) → answers need index → index ≡ chosen_index s need = λ need index a. c.requires.chooses a.0 index a.2 ∙ ap (chosen_index s) a.1 in
+    let answers = Answers g.F.Fn s c.args.self.now.sender.chooser in
+    let as_chosen : (need : Need) (index : ℕ) → answers need index → index ≡ chosen_index s need = c.requires.chooses in
     let value = rw c.requires.wants at c.in-Err.ensures.value in
     let outlet = c.args.outlet.now in
     let went = g.O.Outlet.carried outlet outlet in

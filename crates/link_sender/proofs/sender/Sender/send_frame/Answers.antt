@@ -1,8 +1,10 @@
-use Rattle.std.proofs.Common.{sym, arith}
+use Rattle.std.proofs.Common.{◌≡◌, Err, sym, arith, rules}
 use Rattle.std.proofs.lemmas.Grind.{common_steps}
-use Rattle.picture_encode.specs.Choosing.{AnswersNeed}
+use Rattle.picture_encode.specs.Answering.{Answers}
 use Rattle.vc_types.specs.Planes.{planes_in}
 use Rattle.vc_types.specs.SenderSettings.{sending_view}
+use Rattle.link_sender.specs.State.{numbers_of}
+use Rattle.link_sender.specs.declared.refusal.SendRefusal.TheVariants.{NoMemory}
 use Rattle.link_sender.proofs.Frames.{are_pictures, is_sent, none_for_frame, samples_refuse, slices_refuse}
 use Rattle.link_sender.proofs.sender.Sender.send_frame.Goals as goal
 
@@ -18,10 +20,20 @@ returns-in_err-slices-clause-value g c = grind (arith, common_steps, slices_refu
 pub put_frame-requires : goal.put_frame-requires
 put_frame-requires g c =
     let sender = c.args.self.now in
-    record { whole = are_pictures (AnswersNeed g.F.Fn sender.chooser.choose) sender.chooser.wants_lens (sending_view sender.settings) (planes_in c.args.frame.now) c.in_ok-slices.slices c.in_ok-slices.ensures }
+    record { whole = are_pictures (Answers g.F.Fn (sending_view sender.settings) sender.chooser) sender.chooser.wants_lens (sending_view sender.settings) (planes_in c.args.frame.now) c.in_ok-slices.slices c.in_ok-slices.ensures }
 
 pub returns-in_err-put_frame-clause-value : goal.returns-in_err-put_frame-clause-value
-returns-in_err-put_frame-clause-value g c = grind (arith, common_steps, none_for_frame)
+returns-in_err-put_frame-clause-value g c =
+    let sender = c.args.self.now in
+    let same : c.from_residual-in_err-put_frame.result ≡ Err NoMemory = search rules in
+    rw same (
+      none_for_frame (Answers g.F.Fn (sending_view sender.settings) sender.chooser) sender.chooser.wants_lens (sending_view sender.settings) (planes_in c.args.frame.now),
+      c.in_err-put_frame.ensures.unchanged,
+    )
 
 pub returns-clause-value : goal.returns-clause-value
-returns-clause-value g c = grind (arith, common_steps, is_sent)
+returns-clause-value g c =
+    let sender = c.args.self.now in
+    let s = sending_view sender.settings in
+    is_sent (Answers g.F.Fn s sender.chooser) sender.chooser.wants_lens s (planes_in c.args.frame.now) c.in_ok-slices.slices c.in_ok-slices.ensures
+    (numbers_of sender) (numbers_of c.put_frame.new.self) c.in_ok-put_frame.field-0.items (c.in_ok-check_samples.ensures.sound s (sym sender.plan_is)) c.in_ok-put_frame.ensures.datagrams c.in_ok-put_frame.ensures.numbers

@@ -2,7 +2,7 @@ use Rattle.std.proofs.Common.{◌-◌}
 use Rattle.vc_types.specs.SenderSettings.{sending_view}
 use Rattle.vc_types.specs.TransformParameters.{parameters_of}
 use Rattle.picture_encode.proofs.Judged.{told_need}
-use Rattle.picture_encode.proofs.slices.choose.Goals as goal
+use Rattle.picture_encode.proofs.slices.ask.Goals as goal
 
 pub returns-clause-answer : goal.returns-clause-answer
 returns-clause-answer g c = λ planes same. (

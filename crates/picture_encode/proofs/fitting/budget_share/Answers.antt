@@ -1,6 +1,6 @@
 use Rattle.std.proofs.Common.{◌≡◌, ℕ, ◌+◌, ◌-◌, ◌*◌, ◌/◌, ap, arith}
 use Rattle.link_model.specs.SendingPictures.{budget_share}
-use Rattle.cmd_send.proofs.fitting.budget_share.Goals as goal
+use Rattle.picture_encode.proofs.fitting.budget_share.Goals as goal
 
 one_more : (slice bytes slices : ℕ) → (slice * bytes + bytes) / slices - slice * bytes / slices ≡ budget_share bytes slices slice
 unfolding budget_share
