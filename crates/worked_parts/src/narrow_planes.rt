@@ -9,7 +9,8 @@ use std::alloc::Global;
 use vc_geometry::padded;
 use vc_types::Plane;
 use vc_wave::{
-    Nesting, forward_fits_narrow, forward_narrow, inverse_output, nesting_of, room_len, row_in_turn,
+    Nesting, forward_fits_narrow, forward_narrow, forward_room_len, inverse_output, nesting_of,
+    room_len, row_in_turn,
 };
 use worked_common::Bad;
 
@@ -132,13 +133,13 @@ fn parted_plane(alloc: Global, of: &PlannedPlane, plane: &Plane) -> Result<Optio
     let (width, height) = padded(&of.plan, of.component);
     let (columns, rows) = (width as usize, height as usize);
     let mut cells = vec![in alloc; 7i32; rows * columns]?;
-    let mut line = vec![in alloc; 7i32; columns]?;
+    let mut room = vec![in alloc; 7i32; forward_room_len(&of.plan, of.component)]?;
     forward_narrow(
         &of.plan,
         of.component,
         plane,
         cells.as_mut_slice(),
-        line.as_mut_slice(),
+        room.as_mut_slice(),
     );
     let nested = nested(alloc, of, cells.as_slice())?;
     Ok(Some(widened(alloc, nested.as_slice())?))

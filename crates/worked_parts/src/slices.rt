@@ -339,21 +339,13 @@ fn encoded(alloc: Global, of: &PlannedSlice, index: u32) -> Result<String, Bad> 
     Ok(all)
 }
 
-// Adds what is encoded of a slice in 64 bits, and what is in 32, where it differs.
-fn add_both(
-    alloc: Global,
-    wide: &PlannedSlice,
-    narrow: &PlannedSlice,
-    index: u32,
-    into: &mut String,
-) -> Result<(), Bad> {
-    let in_64 = encoded(alloc, wide, index)?;
-    let in_32 = encoded(alloc, narrow, index)?;
-    add_word(into, in_64.as_str())?;
-    if in_64.as_str() == in_32.as_str() {
+// Adds what is found of a slice in 64 bits, and what is in 32, where it differs.
+fn add_both(in_64: &str, in_32: &str, into: &mut String) -> Result<(), Bad> {
+    add_word(into, in_64)?;
+    if in_64 == in_32 {
         return Ok(());
     }
-    add_pieces(into, &["in 64 bits, in 32 ", in_32.as_str()])
+    add_pieces(into, &["in 64 bits, in 32 ", in_32])
 }
 
 /// The bytes of a slice, or TooLong and how many it would have. Given is
@@ -371,7 +363,11 @@ pub(crate) fn slice_written(
     let index = natural(index)?;
     let wide = planned_slice_of(alloc, parts, plan, slice, coefficients)?;
     match narrowed_slice(alloc, &wide)? {
-        Some(narrow) => add_both(alloc, &wide, &narrow, index, into),
+        Some(narrow) => {
+            let in_64 = encoded(alloc, &wide, index)?;
+            let in_32 = encoded(alloc, &narrow, index)?;
+            add_both(in_64.as_str(), in_32.as_str(), into)
+        }
         None => add_encoded(alloc, &wide, index, into),
     }
 }
@@ -408,8 +404,15 @@ fn add_lengths(
     Ok(())
 }
 
+fn lengths(alloc: Global, of: &PlannedSlice, indices: &str) -> Result<String, Bad> {
+    let mut all = String::new(alloc);
+    add_lengths(alloc, of, indices, &mut all)?;
+    Ok(all)
+}
+
 /// The lengths of a slice at some indices, each found alone and all at once. Given is
 /// plan : number of the slice : the indices : coefficients.
+/// They are found in 64 bits and, where the coefficients fit, in 32: what differs is told too.
 pub(crate) fn slice_lengths(
     alloc: Global,
     parts: &[Part],
@@ -419,6 +422,13 @@ pub(crate) fn slice_lengths(
     let (plan, rest) = parted(given)?;
     let (slice, rest) = parted(rest)?;
     let (indices, coefficients) = parted(rest)?;
-    let of = planned_slice_of(alloc, parts, plan, slice, coefficients)?;
-    add_lengths(alloc, &of, indices, into)
+    let wide = planned_slice_of(alloc, parts, plan, slice, coefficients)?;
+    match narrowed_slice(alloc, &wide)? {
+        Some(narrow) => {
+            let in_64 = lengths(alloc, &wide, indices)?;
+            let in_32 = lengths(alloc, &narrow, indices)?;
+            add_both(in_64.as_str(), in_32.as_str(), into)
+        }
+        None => add_lengths(alloc, &wide, indices, into),
+    }
 }
