@@ -9,6 +9,7 @@ ghost use Rattle.vc_lift.specs.StepLists.{steps_of};
 ghost use Rattle.vc_lift.specs.Columns.{column_of, one_changed};
 ghost use Rattle.vc_lift.specs.ColumnSums.{CanSum};
 
+use crate::narrow::with_taps;
 use crate::order::{analysis, step_at, step_count, synthesis};
 use crate::step::Step;
 use crate::steps::Steps;
@@ -133,7 +134,7 @@ fn sweep(cells: &mut [i128], columns: Columns, step: &Step)
 
 // The step with a slice of its taps whose length the compiler sees, if they are so many.
 #[inline(always)]
-fn with_taps<'a>(step: &Step<'a>, count: usize) -> Step<'a>
+fn with_count<'a>(step: &Step<'a>, count: usize) -> Step<'a>
     requires { length step.now.taps.now ≡ count }
     ensures { counted_of result ≡ counted_of step.now }
 {
@@ -149,7 +150,7 @@ fn with_taps<'a>(step: &Step<'a>, count: usize) -> Step<'a>
 // Makes the step on each column, with a loop over the taps for each number of them that the table has, so
 // that it can be unrolled.
 #[inline(always)]
-fn lift(cells: &mut [i128], columns: Columns, step: &Step)
+fn lift_counted(cells: &mut [i128], columns: Columns, step: &Step)
     requires whole { length cells.old ≡ 2 * columns.half * columns.width }
     requires little { (x : ℕ) → x < columns.width
         → IsLittle (column_of columns.width cells.old x) columns.half (2 ^ 112) }
@@ -158,11 +159,33 @@ fn lift(cells: &mut [i128], columns: Columns, step: &Step)
         ≡ lift (counted_of step.now) columns.half (column_of columns.width cells.old x) }
 {
     match step.taps.len() {
-        1 => sweep(cells, columns, &with_taps(step, 1)),
-        2 => sweep(cells, columns, &with_taps(step, 2)),
-        4 => sweep(cells, columns, &with_taps(step, 4)),
-        8 => sweep(cells, columns, &with_taps(step, 8)),
+        2 => sweep(cells, columns, &with_count(step, 2)),
+        8 => sweep(cells, columns, &with_count(step, 8)),
         _ => sweep(cells, columns, step),
+    }
+}
+
+// The same, with a loop of its own for the taps of the wavelets 0 to 4, for which nothing is multiplied.
+#[inline(always)]
+fn lift(cells: &mut [i128], columns: Columns, step: &Step)
+    requires whole { length cells.old ≡ 2 * columns.half * columns.width }
+    requires little { (x : ℕ) → x < columns.width
+        → IsLittle (column_of columns.width cells.old x) columns.half (2 ^ 112) }
+    ensures { (x : ℕ) → x < columns.width
+        → column_of columns.width cells.new x
+        ≡ lift (counted_of step.now) columns.half (column_of columns.width cells.old x) }
+{
+    let one: &[i32] = &[1];
+    let two: &[i32] = &[1, 1];
+    let four: &[i32] = &[-1, 9, 9, -1];
+    if step.taps == two {
+        sweep(cells, columns, &with_taps(step, two));
+    } else if step.taps == four {
+        sweep(cells, columns, &with_taps(step, four));
+    } else if step.taps == one {
+        sweep(cells, columns, &with_taps(step, one));
+    } else {
+        lift_counted(cells, columns, step);
     }
 }
 
@@ -193,7 +216,12 @@ pub fn synth_columns(wavelet: u8, cells: &mut [i128], width: usize, half: usize)
         → column_of width cells.new x
         ≡ synthesised wavelet (2 * half) (column_of width cells.old x) }
 {
-    run(cells, Columns { width, half }, &synthesis(wavelet))
+    // The compiler makes a loop of its own for one column.
+    if width == 1 {
+        run(cells, Columns { width: 1, half }, &synthesis(wavelet))
+    } else {
+        run(cells, Columns { width, half }, &synthesis(wavelet))
+    }
 }
 
 /// Analyses columns of 2 * half samples that stand side by side, row by row, `width` in a row. Samples have

@@ -70,9 +70,9 @@ fn change_cells(cells: &mut [i32], halves: &Halves, step: &Step, n: usize, width
     }
 }
 
-// The step with taps whose numbers the compiler sees, if they are these.
+/// The step with taps whose numbers the compiler sees, if they are these.
 #[inline(always)]
-fn with_taps<'a>(step: &Step, taps: &'a [i32]) -> Step<'a>
+pub(crate) fn with_taps<'a>(step: &Step, taps: &'a [i32]) -> Step<'a>
     requires { step.now.taps.now ≡ taps.now }
     ensures { counted_of result ≡ counted_of step.now }
 {

@@ -1,9 +1,8 @@
 -- Bands of a level: rows that are gathered, columns that are synthesised in part, and rows that are put out.
-use Rattle.std.proofs.Common.{◌≡◌, ℕ, suc, ◌+◌, ◌-◌, ◌*◌, ◌%◌, ◌<◌, ◌≤◌, ◌⊎◌, inl, inr, List, ℤ, min, arith, ap}
+use Rattle.std.proofs.Common.{◌≡◌, ℕ, ◌+◌, ◌-◌, ◌*◌, ◌%◌, ◌<◌, ◌≤◌, ◌⊎◌, inl, inr, List, ℤ, min, arith, ap}
 use Rattle.std.proofs.Common.{sym, subst, ◌∙◌, slice_index_or, false, unsigned_abs}
 use Rattle.std.proofs.lemmas.Bool.{cases_lt, cases_eq}
 use Rattle.std.proofs.lemmas.Nat.{mul-add-lt}
-use Rattle.std.proofs.Math.Nat.{mul-le-mul_right}
 use Rattle.vc_types.specs.Lifting.{Line, line_of}
 use Rattle.vc_types.specs.Transforms.{Cells, on_columns, inverse_level}
 use Rattle.vc_types.specs.Wavelets.{is_shifted, synthesised}
@@ -34,15 +33,6 @@ module _ (wavelet h from most back ahead to first pairs : ℕ) (some : 0 < most)
   }
 
 -- ---- a pair of rows
-
-pub row_rooms : (w h pitch pair lows cells : ℕ) → pair < h → h * w ≤ lows → 2 * w ≤ pitch
-    → 2 * h * pitch ≤ cells
-    → (pair * w + w ≤ lows) × (pair * pitch + w + w ≤ cells) × ((h + pair) * pitch + 2 * w ≤ cells)
-row_rooms w h pitch pair lows cells inside low wide nested =
-    let one : suc pair * w ≤ h * w = mul-le-mul_right w inside in
-    let two : suc pair * pitch ≤ 2 * h * pitch = mul-le-mul_right pitch (omega arith) in
-    let three : suc (h + pair) * pitch ≤ 2 * h * pitch = mul-le-mul_right pitch (omega arith) in
-    (omega (arith, one), omega (arith, two, wide), omega (arith, three, wide))
 
 module _ (w h pitch pair at : ℕ) (low nested old one two three : List ℤ) (inside : pair < h) (wide : 2 * w ≤ pitch)
     (first : (x : ℕ) → x < w → line_of one (at + x) ≡ line_of low (pair * w + x))

@@ -141,12 +141,18 @@ module _ (wavelet half width : ℕ) (line : ℕ → ℤ) (gathered made : List �
       ∙ synthesis_is_local wavelet (2 * half) (column_of width gathered x) (halves_together half line)
       (omega arith) (λ j lt. from j lt ∙ sym (rearranged_in (2 * half) (half_place half) line j lt)) k h
 
-  pub made_below : (m : ℕ) → 2 ^ 16 ≤ m → ((k : ℕ) → k < 2 * half → unsigned_abs (line k) < m) → (k : ℕ)
+  pub made_within : (m : ℕ) → 2 ^ 16 ≤ m
+      → ((k : ℕ) → k < 2 * half → unsigned_abs (line (half_place half k)) < m) → (k : ℕ)
       → k < 2 * half → unsigned_abs (column_of width made x k) < 16 * m
-  made_below m large small k h =
+  made_within m large small k h =
       rw (ap (λ f. f k) synth)
       (synthesis_grows_little wavelet (2 * half) m (column_of width gathered x) (omega arith) large
-      (λ j lt. rw (from j lt) (small (half_place half j) (half_place_below half j lt))) k h)
+      (λ j lt. rw (from j lt) (small j lt)) k h)
+
+  pub made_below : (m : ℕ) → 2 ^ 16 ≤ m → ((k : ℕ) → k < 2 * half → unsigned_abs (line k) < m) → (k : ℕ)
+      → k < 2 * half → unsigned_abs (column_of width made x k) < 16 * m
+  made_below m large small =
+      made_within m large (λ j lt. small (half_place half j) (half_place_below half j lt))
 
 -- samples that were gathered in their order, and then doubled
 module _ (half width : ℕ) (shifted : Bool) (line : ℕ → ℤ) (gathered twice : List ℤ) (x : ℕ)

@@ -10,6 +10,7 @@ mod forward_bounds;
 mod laws;
 mod level;
 mod lines;
+mod long;
 mod lower;
 mod narrow;
 mod narrow_analysis;
@@ -28,6 +29,7 @@ mod turn;
 pub use analysis::forward;
 pub use forward_bounds::forward_fits_narrow;
 pub use laws::inverse_undoes_forward;
+pub use long::inverse_long;
 pub use narrow_forward::{
     forward_narrow, forward_narrow_joined, forward_room_len, joined_forward_room_len,
 };

@@ -19,10 +19,10 @@ pub(crate) struct Lines {
     pub half: usize,
 }
 
-// Where a line has sample k: at k or, while its even and odd samples stand in two halves, in the half of its
-// parity.
+/// Where a line has sample k: at k or, while its even and odd samples stand in two halves, in the half of its
+/// parity.
 #[inline(always)]
-fn sample_place(apart: bool, half: usize, k: usize) -> usize
+pub(crate) fn sample_place(apart: bool, half: usize, k: usize) -> usize
     requires place { k < 2 * half }
     requires half { half < 2 ^ 60 }
     ensures { result ≡ sample_place apart half k }
