@@ -12,3 +12,10 @@ pub mod RunsInPlace
 pub mod ColourParts
 pub mod WideSlices
 pub mod WrittenBlocks
+pub mod SetCells
+pub mod FilledParts
+pub mod DequantisedBlocks
+pub mod StripPlaces
+pub mod StripBlocks
+pub mod RunDecodings
+pub mod RunJobs

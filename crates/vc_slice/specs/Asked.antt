@@ -1,20 +1,21 @@
 -- What a form of places was asked to do, and what it answered.
 use Rattle.std.specs.Prelude.{◌≡◌, ℕ, List, [], ◌∷◌, ◌++◌, ⊤, Option, None, Some, Result, Ok, Err}
 use Rattle.vc_types.specs.declared.memory.NoMemory.{NoMemory}
-use Rattle.vc_slice.specs.declared.job.SliceJob.{SliceJob}
-use Rattle.vc_slice.specs.declared.done.SliceDone.{SliceDone}
+use Rattle.vc_slice.specs.declared.run.RunDone.{RunDone}
+use Rattle.vc_slice.specs.declared.run.RunJob.{RunJob}
+use Rattle.vc_slice.specs.declared.run.RunLoad.{RunLoad}
 
--- a job that was offered, and the place that was answered
+-- a run that was offered, and the place that was answered
 pub record Offer : Type 0 where
-  pub job : SliceJob
+  pub job : RunJob
   pub place : Option ℕ
 
--- a decoded slice that was given back, and the place that was asked
+-- a decoded run that was given back, and the place that was asked
 pub record Given : Type 0 where
   pub place : ℕ
-  pub done : SliceDone
+  pub done : RunDone
 
--- the jobs that were offered, the places that were asked, what was given back, the places that were
+-- the runs that were offered, the places that were asked, what was given back, the places that were
 -- freed without a decoding, and the numbers of workers that were started: each list in the order of
 -- the calls
 pub record Told : Type 0 where
@@ -45,28 +46,28 @@ Grows (Some old) (Some new) more = new ≡ told_more old more
 
 -- ---- what each call adds
 
-abbrev pub one_offer : SliceJob → Option ℕ → Told
+abbrev pub one_offer : RunJob → Option ℕ → Told
 one_offer job place = record nothing_told { offered = record { job = job; place = place } ∷ [] }
 
-abbrev pub answered_place : Result ℕ SliceJob → Option ℕ
+abbrev pub answered_place : Result ℕ RunLoad → Option ℕ
 answered_place (Ok place) = Some place
 answered_place (Err job) = None
 
-abbrev pub offering : SliceJob → Result ℕ SliceJob → Told
+abbrev pub offering : RunJob → Result ℕ RunLoad → Told
 offering job answer = one_offer job (answered_place answer)
 
-abbrev pub given_by : ℕ → Option SliceDone → List Given
+abbrev pub given_by : ℕ → Option RunDone → List Given
 given_by place None = []
 given_by place (Some done) = record { place = place; done = done } ∷ []
 
-abbrev pub taking : ℕ → Option SliceDone → Told
+abbrev pub taking : ℕ → Option RunDone → Told
 taking place answer = record nothing_told { asked = place ∷ []; given = given_by place answer }
 
-abbrev pub freed_by : ℕ → Option SliceJob → List ℕ
+abbrev pub freed_by : ℕ → Option RunLoad → List ℕ
 freed_by place None = []
 freed_by place (Some job) = place ∷ []
 
-abbrev pub withdrawing : ℕ → Option SliceJob → Told
+abbrev pub withdrawing : ℕ → Option RunLoad → Told
 withdrawing place answer = record nothing_told { freed = freed_by place answer }
 
 abbrev pub leaving : ℕ → Told

@@ -1,8 +1,10 @@
 -- What belongs to a slice: its coefficients, the parts of its subbands, and what a block stands for.
-use Rattle.std.specs.Prelude.{ℕ, ℤ, Bool, List}
+use Rattle.std.specs.Prelude.{ℕ, ℤ, Bool, List, slice_index_or}
 use Rattle.vc_types.specs.declared.rect.Rect.{Rect}
 use Rattle.vc_types.specs.declared.video.Component.{Component}
+use Rattle.vc_types.specs.Lifting.{line_of}
 use Rattle.vc_types.specs.OfPlan as plans
+use Rattle.vc_types.specs.Quantisation.{dequantised}
 use Rattle.vc_types.specs.Slices.{CodedSlice, Coefficients}
 use Rattle.vc_slice.specs.declared.bands.SliceParts.{SliceParts}
 use Rattle.vc_slice.specs.declared.bands.SliceBands.{SliceBands}
@@ -25,6 +27,11 @@ quantisers_of bands c = plans.quantisers bands.parts.now.plan c bands.parts.now.
 abbrev pub coefficients_of_block : SliceBands → Component → List ℕ → List ℤ
 coefficients_of_block bands c =
     plans.block_coefficients bands.parts.now.plan c bands.parts.now.slice bands.index
+
+-- the coefficient that number i of a list stands for
+abbrev pub numbered_in : SliceBands → Component → List ℤ → ℕ → ℤ
+numbered_in bands c numbers i =
+    dequantised (line_of numbers i) (slice_index_or (quantisers_of bands c) i 0)
 
 -- coefficients are those of the slice: as many, and small
 abbrev pub AreCoefficients : SliceParts → Coefficients → Type 0

@@ -9,3 +9,7 @@ pub mod Numbers
 pub mod OneBlock
 pub mod Listed
 pub mod Thresholds
+pub mod FilledCells
+pub mod RunSlices
+pub mod Strips
+pub mod RunJobs

@@ -26,7 +26,7 @@ pub fn decode(alloc: Global, job: SliceJob) -> Result<SliceDone, NoMemory>
 }
 
 #[tactic(auto, unfolding(vc_types::specs::Slices::slice_coefficients, vc_types::specs::Slices::decoded_slice, vc_types::specs::Slices::slice_length))]
-fn answer(
+pub(crate) fn answer(
     alloc: Global,
     plan: &Plan,
     slice: u32,

@@ -1,11 +1,10 @@
 ghost use Rattle.std.specs.Prelude.{◌≡◌, None, Err, IsOk};
 
-use crate::done::SliceDone;
-use crate::job::SliceJob;
 use crate::places::{Hands, Places};
+use crate::run::{RunDone, RunLoad};
 use vc_types::NoMemory;
 
-/// No place at all: each slice is handed back, and no worker starts.
+/// No place at all: each run is handed back, and no worker starts.
 #[derive(Clone, Copy)]
 pub struct NoPlaces;
 
@@ -16,20 +15,20 @@ impl Places for NoPlaces {
 
     ghost told = { λ _. None };
 
-    fn put(&mut self, job: SliceJob) -> Result<u32, SliceJob>
-        ensures value { result ≡ Err job }
+    fn put(&mut self, load: RunLoad) -> Result<u32, RunLoad>
+        ensures value { result ≡ Err load }
     {
-        Err(job)
+        Err(load)
     }
 
     // There is no place to ask of, so none is asked for here.
-    fn take(&mut self, _place: u32) -> Option<SliceDone>
+    fn take(&mut self, _place: u32) -> Option<RunDone>
         ensures value { result ≡ None }
     {
         None
     }
 
-    fn withdraw(&mut self, _place: u32) -> Option<SliceJob>
+    fn withdraw(&mut self, _place: u32) -> Option<RunLoad>
         ensures value { result ≡ None }
     {
         None

@@ -2,11 +2,10 @@ ghost use Rattle.std.specs.Prelude.{◌≡◌, ℕ, ◌<◌, IfOk, IfErr, OnErr}
 ghost use Rattle.std.specs.declared.option.Option.{Option};
 ghost use Rattle.vc_slice.specs.Asked.{Told, Grows, offering, taking, withdrawing, leaving, starting};
 
-use crate::done::SliceDone;
-use crate::job::SliceJob;
+use crate::run::{RunDone, RunLoad};
 use vc_types::NoMemory;
 
-/// Places where slices wait until they are decoded, numbered from 0. No call waits.
+/// Places where runs of slices wait until they are decoded, numbered from 0. No call waits.
 pub trait Places {
     /// Each place is below it.
     ghost bound: { Self → ℕ };
@@ -14,26 +13,26 @@ pub trait Places {
     /// What was asked and answered up to now, where that is told.
     ghost told: { Self → Option Told };
 
-    /// Offers a slice to be decoded. It has a place then, or is handed back.
-    fn put(&mut self, job: SliceJob) -> Result<u32, SliceJob>
-        ensures told { Grows (told self.old) (told self.new) (offering job result) }
+    /// Offers a run to be decoded. It has a place then, or is handed back.
+    fn put(&mut self, load: RunLoad) -> Result<u32, RunLoad>
+        ensures told { Grows (told self.old) (told self.new) (offering load.job result) }
         ensures bound { bound self.new ≡ bound self.old }
         ensures place { IfOk result (λ place. place < bound self.old) }
-        ensures back { IfErr result (λ same. same ≡ job) };
+        ensures back { IfErr result (λ back. back.job ≡ load.job) };
 
-    /// The decoded slice of a place, if it is decoded by now. The place is free then.
-    fn take(&mut self, place: u32) -> Option<SliceDone>
+    /// The decoded run of a place, if it is decoded by now. The place is free then.
+    fn take(&mut self, place: u32) -> Option<RunDone>
         requires place { place < bound self.old }
         ensures told { Grows (told self.old) (told self.new) (taking place result) }
         ensures bound { bound self.new ≡ bound self.old };
 
-    /// Takes a slice back that nobody decodes yet. The place is free then.
-    fn withdraw(&mut self, place: u32) -> Option<SliceJob>
+    /// Takes a run back that nobody decodes yet. The place is free then.
+    fn withdraw(&mut self, place: u32) -> Option<RunLoad>
         requires place { place < bound self.old }
         ensures told { Grows (told self.old) (told self.new) (withdrawing place result) }
         ensures bound { bound self.new ≡ bound self.old };
 
-    /// Frees a place, whose slice isn't wanted any more.
+    /// Frees a place, whose run isn't wanted any more.
     fn leave(&mut self, place: u32)
         requires place { place < bound self.old }
         ensures told { Grows (told self.old) (told self.new) (leaving place) }
