@@ -1,5 +1,5 @@
 -- A slice's coefficients that are put into the low parts of cells, whose high ones are cleared where they count.
-use Rattle.std.proofs.Common.{◌≡◌, ℕ, Bool, true, false, List, ◌<◌, ◌++◌, take, drop, length, ℤ, pos, arith, sym, ap, subst, ◌∙◌}
+use Rattle.std.proofs.Common.{◌≡◌, ℕ, Bool, true, false, List, ◌<◌, ◌++◌, take, drop, length, ℤ, pos, arith, sym, ap, ◌∙◌}
 use Rattle.vc_types.specs.declared.video.Component.{Component}
 use Rattle.vc_types.specs.Lifting.{line_of}
 use Rattle.vc_slice.specs.declared.bands.SliceBands.{SliceBands}

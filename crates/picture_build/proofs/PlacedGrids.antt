@@ -15,7 +15,7 @@ use Rattle.vc_types.specs.TransformParameters.{Parameters}
 use Rattle.vc_types.proofs.PlacesMet.{met_once}
 use Rattle.vc_wave.proofs.Grids.{cell_in}
 use Rattle.picture_build.proofs.Standing.{component_cells-met, component_cells-outside}
-use Rattle.picture_build.specs.Cells.{cell_number}
+use Rattle.vc_geometry.specs.CellRects.{cell_number}
 use Rattle.picture_build.specs.PictureCoefficients.{ArePictureCoefficients}
 use Rattle.picture_build.proofs.GridCells.{cell_out}
 use Rattle.picture_build.proofs.WholeSlices.{coefficient-small}

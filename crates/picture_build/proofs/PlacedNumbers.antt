@@ -1,6 +1,5 @@
 -- A slice's coefficients that are put into cells subband by subband: none is written over.
-use Rattle.std.proofs.Common.{◌≡◌, ◌≢◌, ℕ, ◌+◌, ◌-◌, ◌<◌, ◌≤◌, List, ℤ, arith, ap, sym, subst, ◌∙◌, inl, inr}
-use Rattle.std.proofs.lemmas.Bool.{cases_lt}
+use Rattle.std.proofs.Common.{◌≡◌, ◌≢◌, ℕ, ◌+◌, ◌<◌, ◌≤◌, List, ℤ, arith, ap, sym, subst, ◌∙◌}
 use Rattle.std.proofs.lemmas.Nat.{same_from_place}
 use Rattle.vc_types.specs.declared.rect.Rect.{Rect}
 use Rattle.vc_types.specs.declared.video.Component.{Component}
@@ -10,12 +9,13 @@ use Rattle.vc_types.specs.TransformParameters.{Parameters, parameters_of}
 use Rattle.vc_geometry.proofs.CoefficientPlaces.{place-inside}
 use Rattle.vc_slice.specs.declared.bands.SliceParts.{SliceParts}
 use Rattle.vc_slice.specs.Bands.{band_count, coefficient_count, rectangle}
-use Rattle.picture_build.proofs.Placements.{places-apart}
+use Rattle.vc_geometry.proofs.Placements.{places-apart}
 use Rattle.vc_types.proofs.RectangleCells.{same_place}
 use Rattle.vc_types.proofs.RectangleWalk.{walked, walked-below}
 use Rattle.vc_types.proofs.SliceCounts.{some_across, some_down}
 use Rattle.vc_types.proofs.SliceRectangles.{coefficients_before, coefficients_before-more, coefficients_before-all}
-use Rattle.picture_build.specs.Cells.{cell_number}
+use Rattle.vc_geometry.specs.CellRects.{cell_number}
+use Rattle.vc_slice.proofs.FilledParts as filled
 use Rattle.picture_build.specs.Kept.{kept_at}
 use Rattle.picture_build.specs.PartsKept.{place_kept}
 
@@ -42,11 +42,11 @@ module _ (parts : SliceParts) (c : Component) where
 
   -- the first coefficients of the slice stand at their places
   abbrev pub FirstStand : (ℕ → ℤ) → ℕ → List ℤ → Type 0
-  FirstStand coeffs n cells = (i : ℕ) → i < n → line_of cells (place_kept parts c i) ≡ coeffs i
+  FirstStand = filled.FirstStand (coefficient_count parts c) (place_kept parts c)
 
-  -- cells of none of the slice's first coefficients are as before
-  abbrev pub OthersStay : ℕ → List ℤ → List ℤ → Type 0
-  OthersStay n old cells = (k : ℕ) → ((i : ℕ) → i < n → k ≢ place_kept parts c i) → line_of cells k ≡ line_of old k
+  -- cells of none of the slice's coefficients are as before
+  abbrev pub OthersStay : List ℤ → List ℤ → Type 0
+  OthersStay = filled.OthersStay (coefficient_count parts c) (place_kept parts c)
 
   apart : (i j : ℕ) → i < coefficient_count parts c → j < coefficient_count parts c → place_kept parts c i ≡ place_kept parts c j → i ≡ j
   apart i j hi hj e = (kept_apart p c across down parts.slice i parts.slice j parts.in_plan hi parts.in_plan hj e).1
@@ -70,20 +70,10 @@ module _ (parts : SliceParts) (c : Component) where
           ∙ ap (λ n. place_kept parts c (n + j)) (sym at)
 
       pub subband_stands : FirstStand coeffs from old → FirstStand coeffs (from + area r) new
-      subband_stands before i h = elim (cases_lt i from) [
-        | inl lt ↦ off (place_kept parts c i) (λ j g e. (
-            let below = subband_within in
-            let same = apart i (from + j) (omega arith) (omega arith) (e ∙ there j g) in
-            omega (arith, same))) ∙ before i lt
-        | inr ge ↦ (
-            let number : from + (i - from) ≡ i = omega arith in
-            let here : i - from < area r = omega arith in
-            ap (λ n. line_of new (place_kept parts c n)) (sym number) ∙ ap (line_of new) (sym (there (i - from) here)) ∙ on (i - from) here ∙ ap coeffs number)
-      ]
+      subband_stands = filled.part_stands (coefficient_count parts c) (place_kept parts c) apart from (area r) subband_within (λ j. cell_number stride (place_in r j)) there coeffs old new on off
 
-      pub subband_stays : (first : List ℤ) → OthersStay (coefficient_count parts c) first old → OthersStay (coefficient_count parts c) first new
-      subband_stays first before k none =
-          off k (λ j g e. none (from + j) (let below = subband_within in omega arith) (e ∙ there j g)) ∙ before k none
+      pub subband_stays : (first : List ℤ) → OthersStay first old → OthersStay first new
+      subband_stays = filled.part_stays (coefficient_count parts c) (place_kept parts c) apart from (area r) subband_within (λ j. cell_number stride (place_in r j)) there coeffs old new on off
 
   pub all_stand : (b from : ℕ) (coeffs : ℕ → ℤ) (cells : List ℤ) → b ≡ band_count parts → from ≡ coefficients_before p c parts.slice b
       → FirstStand coeffs from cells → FirstStand coeffs (coefficient_count parts c) cells

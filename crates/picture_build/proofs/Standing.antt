@@ -9,7 +9,7 @@ use Rattle.vc_types.specs.Slices.{Coefficients, coefficients_of}
 use Rattle.vc_types.specs.Subbands.{Place, slice_count, slice_coefficient_count, coefficient_place, padded_width, padded_height, IsMetOnce}
 use Rattle.vc_types.specs.TransformParameters.{Parameters}
 use Rattle.vc_geometry.proofs.CoefficientPlaces.{place-inside}
-use Rattle.picture_build.proofs.Placements.{places-apart}
+use Rattle.vc_geometry.proofs.Placements.{places-apart}
 use Rattle.vc_types.proofs.RectangleCells.{same_place}
 
 -- ---- items in a list

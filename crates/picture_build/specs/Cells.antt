@@ -1,11 +1,6 @@
--- The cells of a plane that is kept row by row: where they stand, and what they hold.
-use Rattle.std.specs.Prelude.{ℕ, ◌+◌, ◌*◌, ◌^◌, ℤ, pos, ◌+ℤ◌, ◌*ℤ◌, Bool, if◌then◌else◌, List, map}
+-- What the cells of a plane hold.
+use Rattle.std.specs.Prelude.{◌^◌, ℤ, pos, ◌+ℤ◌, ◌*ℤ◌, Bool, if◌then◌else◌, List, map}
 use Rattle.std.specs.List.{zip}
-use Rattle.vc_types.specs.Subbands.{Place}
-
--- the number of a place, so many cells a row
-abbrev pub cell_number : ℕ → Place → ℕ
-cell_number stride place = place.1 * stride + place.0
 
 -- a number in two parts: a high one that counts 2 ^ 30, and a low one
 abbrev pub whole_number : ℤ → ℤ → ℤ

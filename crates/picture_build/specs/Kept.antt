@@ -1,7 +1,7 @@
 -- A picture whose slices come one after another, in any order: a finite map from a slice's number
 -- to its coefficients.
 use Rattle.std.specs.Prelude.{◌≡◌, ◌≢◌, ◌<◌, ◌≤◌, ◌+◌, ◌*◌, ℕ, length, Bool, true, false, if◌then◌else◌, List}
-use Rattle.std.specs.Prelude.{[], map, replicate, slice_index_or, slice_set, ℤ, Option, Some, None}
+use Rattle.std.specs.Prelude.{[], ◌∷◌, map, replicate, slice_index_or, slice_set, ℤ, Option, Some, None}
 use Rattle.std.specs.List.{range_with_len}
 use Rattle.std.specs.Option.{is_some, unwrap_or}
 use Rattle.vc_types.specs.declared.video.Component.{Component}
@@ -12,7 +12,9 @@ use Rattle.vc_types.specs.Slices.{Coefficients, coefficients_of}
 use Rattle.vc_types.specs.Subbands.{slice_count, slice_coefficient_count}
 use Rattle.vc_types.specs.Subbands.{coefficient_place, padded_width, padded_height}
 use Rattle.vc_types.specs.TransformParameters.{Parameters}
-use Rattle.picture_build.specs.Cells.{cell_number}
+use Rattle.vc_geometry.specs.CellRects.{cell_number}
+use Rattle.vc_geometry.specs.Runs.{strip_number}
+use Rattle.vc_slice.specs.FilledCells.{ChangesAt, FillsAt}
 use Rattle.picture_build.specs.PictureCoefficients.{ArePictureCoefficients}
 
 -- the transform parameters, and by its number the coefficients of each slice that came
@@ -36,6 +38,11 @@ all_slices p slices = record { parameters = p; slices = map Some slices }
 abbrev pub with_slice : PartPicture → ℕ → Coefficients → PartPicture
 with_slice picture n s =
     record { parameters = picture.parameters; slices = slice_set picture.slices n (Some s) }
+
+-- slices more, one after another from number n on
+unfoldable pub with_run : PartPicture → ℕ → List Coefficients → PartPicture
+with_run picture n [] = picture
+with_run picture n (s ∷ slices) = with_run (with_slice picture n s) (n + 1) slices
 
 -- every slice came
 abbrev pub HasAllSlices : PartPicture → Type 0
@@ -90,17 +97,27 @@ pub record IsKept (p : Parameters) (came : List Bool) (y c1 c2 : List ℤ) (room
       → slice_coefficient_count p c n + 8 ≤ room
 
 -- the cells of no other slice were changed
-pub record ChangesOnly (p : Parameters) (c : Component) (n : ℕ) (old new : List ℤ) : Type 0 where
-  pub length : length new ≡ length old
-  pub others : (k : ℕ) → ((i : ℕ) → i < slice_coefficient_count p c n → k ≢ kept_at p c n i)
-      → line_of new k ≡ line_of old k
+abbrev pub ChangesOnly : Parameters → Component → ℕ → List ℤ → List ℤ → Type 0
+ChangesOnly p c n = ChangesAt (slice_coefficient_count p c n) (kept_at p c n)
 
 -- and these coefficients stand in those of this slice
-pub record FillsSlice (p : Parameters) (c : Component) (n : ℕ) (coefficients old new : List ℤ)
+abbrev pub FillsSlice : Parameters → Component → ℕ → List ℤ → List ℤ → List ℤ → Type 0
+FillsSlice p c n = FillsAt (slice_coefficient_count p c n) (kept_at p c n)
+
+-- no other cells were changed than those of a run's slices
+pub record ChangesRun (p : Parameters) (c : Component) (first count : ℕ) (old new : List ℤ)
     : Type 0 where
-  pub only : ChangesOnly p c n old new
-  pub own : (i : ℕ) → i < slice_coefficient_count p c n
-      → line_of new (kept_at p c n i) ≡ line_of coefficients i
+  pub length : length new ≡ length old
+  pub others : (m : ℕ) → ((k i : ℕ) → k < count → i < slice_coefficient_count p c (first + k)
+      → m ≢ kept_at p c (first + k) i) → line_of new m ≡ line_of old m
+
+-- and these coefficients of the run's strip stand in them
+pub record FillsRun (p : Parameters) (c : Component) (first count : ℕ) (strip old new : List ℤ)
+    : Type 0 where
+  pub only : ChangesRun p c first count old new
+  pub own : (k i : ℕ) → k < count → i < slice_coefficient_count p c (first + k)
+      → line_of new (kept_at p c (first + k) i)
+      ≡ line_of strip (strip_number p c first count (first + k) i)
 
 -- the cells hold a component of all the slices of a picture
 pub record AreIn (p : Parameters) (c : Component) (slices : List Coefficients) (cells : List ℤ)

@@ -5,4 +5,3 @@ pub mod Kept
 pub mod Puts
 pub mod Output
 pub mod OfPlan
-pub mod CellRects

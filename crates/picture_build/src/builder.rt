@@ -1,4 +1,5 @@
-ghost use Rattle.std.specs.Prelude.{◌≡◌, ◌<◌, IfOk, None, Some, length};
+ghost use Rattle.std.specs.Prelude.{◌≡◌, ◌+◌, ◌<◌, ◌≤◌, ◌⊎◌, ℕ, IfOk, None, Some, length};
+ghost use Rattle.std.specs.Prelude.{true, false, slice_index_or};
 ghost use Rattle.std.specs.Option.{is_some};
 ghost use Rattle.vc_types.specs.Planes.{planes_in, planes_of};
 ghost use Rattle.vc_types.specs.SameValues.{same_parameters};
@@ -6,17 +7,20 @@ ghost use Rattle.vc_types.specs.SliceCoefficients.{AreSliceCoefficients};
 ghost use Rattle.vc_types.specs.Slices.{slice_coefficients, slice_length};
 ghost use Rattle.vc_types.specs.Subbands.{slice_count};
 ghost use Rattle.vc_types.specs.TransformParameters.{parameters_of};
-ghost use Rattle.picture_build.specs.Kept.{no_slices, slice_that_came, with_slice, slices_of, HasAllSlices};
+ghost use Rattle.vc_geometry.specs.Runs.{IsRun};
+ghost use Rattle.vc_slice.specs.Strips.{IsStripOf, strip_slice, strip_slices};
+ghost use Rattle.picture_build.specs.Kept.{no_slices, slice_that_came, with_run, with_slice, slices_of};
+ghost use Rattle.picture_build.specs.Kept.{HasAllSlices};
 ghost use Rattle.picture_build.specs.Puts.{Puts};
 
 use crate::cells::CoefficientCells;
-use crate::filling::{fill_slice, parts_of, put_blocks};
+use crate::filling::{fill_slice, fill_strip, put_blocks};
 use crate::finishing::{PictureCells, Rooms, planes_at_once, planes_in_turn};
 use crate::sizes::{cell_count, most_coefficients};
 use std::alloc::Global;
 use std::marker::Model;
 use std::thread::Threads;
-use vc_slice::{SliceCoeffs, TooWide};
+use vc_slice::{RunParts, SliceCoeffs, Strip, TooWide, parts_of};
 use vc_types::{Component, NoMemory, Plan, Plane, Unsound};
 
 /// Why a slice wasn't put into a picture.
@@ -24,7 +28,8 @@ use vc_types::{Component, NoMemory, Plan, Plane, Unsound};
 pub enum NotPut {
     /// It decodes to no coefficients.
     Unsound(Unsound),
-    /// It may have a coefficient that doesn't fit 32 bits. It is to be decoded by itself, and then filled in.
+    /// It has a number with a magnitude of 2^30 or more, or may have a coefficient with one of 2^60 or more. It
+    /// is to be decoded by itself, and then filled in.
     Wide,
 }
 
@@ -131,6 +136,23 @@ impl PictureBuilder {
         self.came[index as usize] = true;
     }
 
+    /// Fills in the slices of a run, none of which came yet, out of its strip. It takes no memory.
+    pub fn fill_run(&mut self, first: u32, count: u32, strip: &Strip)
+        requires run { IsRun self.old.parameters first count }
+        requires some { 0 < count }
+        requires once { (k : ℕ) → k < count → slice_that_came self.old (first + k) ≡ None }
+        requires whole { IsStripOf self.old.parameters first count strip.now }
+        requires sound { (k : ℕ) → k < count
+            → AreSliceCoefficients self.old.parameters (first + k)
+            (strip_slice self.old.parameters first count strip.now (first + k)) }
+        ensures value { self.new ≡ with_run self.old first
+            (strip_slices self.old.parameters first count strip.now) }
+    {
+        let run = RunParts::new(&self.plan, first, count);
+        fill_strip(&run, strip, &mut self.y, &mut self.c1, &mut self.c2);
+        mark_run(&mut self.came, first as usize, count as usize);
+    }
+
     /// Decodes a slice that didn't come yet (ST 2042-1, high-quality slice) straight to the places of its
     /// coefficients. After a refusal the picture is as before.
     pub fn put(&mut self, index: u32, bytes: &[u8]) -> Result<(), NotPut>
@@ -205,5 +227,18 @@ impl PictureBuilder {
     {
         let mut builder = self;
         builder.planes()
+    }
+}
+
+// These slices came, one after another.
+fn mark_run(came: &mut Vec<bool>, first: usize, count: usize)
+    requires { first + count ≤ length came.old.items }
+    ensures on { (k : ℕ) → k < count → slice_index_or came.new.items (first + k) false ≡ true }
+    ensures off { (n : ℕ) → (n < first) ⊎ (first + count ≤ n)
+        → slice_index_or came.new.items n false ≡ slice_index_or came.old.items n false }
+    ensures length { length came.new.items ≡ length came.old.items }
+{
+    for k in 0..count {
+        came[first + k] = true;
     }
 }

@@ -3,17 +3,15 @@ ghost use Rattle.std.specs.Prelude.{IfOk, IfSome, OnOk, length, unsigned_abs};
 ghost use Rattle.vc_types.specs.Lifting.{line_of};
 ghost use Rattle.vc_types.specs.Subbands.{area};
 ghost use Rattle.picture_build.specs.Cells.{whole_number};
-ghost use Rattle.vc_slice.specs.Bands.{coefficient_count};
+ghost use Rattle.vc_slice.specs.Bands.{coefficient_count, numbered_in};
 ghost use Rattle.vc_slice.specs.Numbers.{AreUpTo};
-ghost use Rattle.picture_build.specs.CellRects.{ChangesRect, ChangesRow, HasRow, LiesIn, cell_in};
-ghost use Rattle.picture_build.specs.PartsKept.{AreCells, ChangesPart, PutsCoefficients};
-ghost use Rattle.picture_build.specs.PartsKept.{numbered_in, place_kept};
+ghost use Rattle.vc_geometry.specs.CellRects.{ChangesRect, ChangesRow, HasRow, LiesIn, cell_in};
+ghost use Rattle.picture_build.specs.PartsKept.{AreCells, ChangesPart, PutsCoefficients, place_kept};
 
-use crate::cell_rect::CellRect;
 use crate::dequantising::put_dequantised;
 use std::alloc::Global;
 use std::marker::Model;
-use vc_geometry::{bands as band_count, padded};
+use vc_geometry::{CellRect, bands as band_count, padded};
 use vc_slice::{SliceBands, SliceParts, TooWide};
 use vc_types::{Component, NoMemory};
 

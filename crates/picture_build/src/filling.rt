@@ -8,19 +8,20 @@ ghost use Rattle.vc_types.specs.Slices.{coefficients_of, decoded_slice, in_range
 ghost use Rattle.vc_types.specs.Subbands.{area};
 ghost use Rattle.vc_types.specs.TransformParameters.{parameters_of};
 ghost use Rattle.vc_slice.specs.Bands.{coefficient_count, coefficients_of_block};
+ghost use Rattle.vc_geometry.specs.OfPlan.{run_coefficient_count};
 ghost use Rattle.vc_slice.specs.Coded.{coded_of};
-ghost use Rattle.picture_build.specs.CellRects.{ChangesRect, LiesIn, cell_in};
-ghost use Rattle.picture_build.specs.Kept.{ChangesOnly, FillsSlice};
+ghost use Rattle.vc_slice.specs.OfPlan.{IsStripOf};
+ghost use Rattle.vc_geometry.specs.CellRects.{ChangesRect, LiesIn, cell_in};
+ghost use Rattle.picture_build.specs.Kept.{ChangesOnly, FillsRun, FillsSlice};
 ghost use Rattle.picture_build.specs.PartsKept.{place_kept, AreCells, ChangesPart, FillsPart};
 ghost use Rattle.vc_types.specs.OfPlan.{AreSliceCoefficients, all_coefficients, padded_height, padded_width};
 ghost use Rattle.vc_types.specs.OfPlan.{slice_coefficient_count, slice_coefficients, slice_count};
 
-use crate::cell_rect::CellRect;
 use crate::cells::CoefficientCells;
-use crate::wide::place_wide;
-use vc_geometry::{bands as band_count, padded};
+use crate::wide::{place_wide, put_wide_numbers};
+use vc_geometry::{CellRect, bands as band_count, padded};
 use vc_slice::{
-    CodedSlice, CoefficientList, SliceBands, SliceCoeffs, SliceParts, TooWide, coded_slice,
+    CodedSlice, CoefficientList, RunParts, SliceBands, SliceCoeffs, SliceParts, Strip, TooWide,
     read_numbers,
 };
 use vc_types::{Component, Plan};
@@ -94,20 +95,6 @@ fn fill_wide(
     }
 }
 
-/// The parts of one whole slice.
-#[tactic(auto, unfolding(vc_types::specs::Slices::slice_coefficients, vc_types::specs::Slices::slice_length))]
-pub(crate) fn parts_of<'a>(plan: &Plan, bytes: &'a [u8]) -> CodedSlice<'a>
-    requires whole { slice_length plan.now.prefix plan.now.scaler bytes.now
-        ≡ Some (length bytes.now) }
-    ensures decoded { (n : ℕ) → slice_coefficients plan.now n bytes.now
-        ≡ decoded_slice (parameters_of plan.now) n (coded_of result) }
-{
-    let Some((coded, _)) = coded_slice(plan.prefix, plan.scaler, bytes) else {
-        unreachable!();
-    };
-    coded
-}
-
 /// Reads the blocks of a slice to their coefficients' places in the cells of the three components. Where a
 /// coefficient may be too wide, only cells of this slice were changed.
 pub(crate) fn put_blocks(
@@ -166,7 +153,10 @@ fn put_block(
         (list_any is_large (coefficients_of_block bands.now c block.now) ≡ false) }
 {
     let greatest = read_numbers(bands, c, block, numbers)?;
-    cells.put_numbers(bands, c, numbers, greatest)
+    match cells.put_numbers(bands, c, numbers, greatest) {
+        Ok(()) => Ok(()),
+        Err(TooWide) => put_wide_numbers(bands, c, numbers, greatest, cells),
+    }
 }
 
 // Copies coefficients to 32 bits each, as long as they fit.
@@ -221,5 +211,54 @@ fn place_rect(to: &CellRect, numbers: &[i32], from: usize, cells: &mut Coefficie
     for row in 0..to.rect.height as usize {
         let at = (to.rect.y as usize + row) * to.stride + to.rect.x as usize;
         cells.put_row(at, numbers, from + row * width, width);
+    }
+}
+
+/// Puts the coefficients of a run at their places in the cells of the three components.
+pub(crate) fn fill_strip(
+    run: &RunParts,
+    strip: &Strip,
+    y: &mut CoefficientCells,
+    c1: &mut CoefficientCells,
+    c2: &mut CoefficientCells,
+)
+    requires strip { IsStripOf run.now.plan run.now.first run.now.count strip.now }
+    requires y { length y.old
+        ≡ padded_height run.now.plan Y * padded_width run.now.plan Y }
+    requires c1 { length c1.old
+        ≡ padded_height run.now.plan C1 * padded_width run.now.plan C1 }
+    requires c2 { length c2.old
+        ≡ padded_height run.now.plan C2 * padded_width run.now.plan C2 }
+    ensures y { FillsRun (parameters_of run.now.plan) Y run.now.first run.now.count
+        strip.now.y y.old y.new }
+    ensures c1 { FillsRun (parameters_of run.now.plan) C1 run.now.first run.now.count
+        strip.now.c1 c1.old c1.new }
+    ensures c2 { FillsRun (parameters_of run.now.plan) C2 run.now.first run.now.count
+        strip.now.c2 c2.old c2.new }
+{
+    place_run(run, Component::Y, strip.component(Component::Y), y);
+    place_run(run, Component::C1, strip.component(Component::C1), c1);
+    place_run(run, Component::C2, strip.component(Component::C2), c2);
+}
+
+// Puts a component of a run at its places: each subband's rectangle of the run, row by row.
+fn place_run(run: &RunParts, c: Component, strip: &[i32], cells: &mut CoefficientCells)
+    requires strip { length strip.now
+        ≡ run_coefficient_count run.now.plan c run.now.first run.now.count }
+    requires cells { length cells.old
+        ≡ padded_height run.now.plan c * padded_width run.now.plan c }
+    ensures { FillsRun (parameters_of run.now.plan) c run.now.first run.now.count
+        strip.now cells.old cells.new }
+{
+    let (width, _) = padded(&run.plan, c);
+    let mut from = 0;
+    for b in 0..band_count(&run.plan) {
+        let rect = run.rect(c, b);
+        let to = CellRect {
+            rect,
+            stride: width as usize,
+        };
+        place_rect(&to, strip, from, cells);
+        from += rect.width as usize * rect.height as usize;
     }
 }

@@ -8,6 +8,7 @@ ghost use Rattle.picture_build.specs.OfPlan.{ArePlanesOf, HoldsComponent, IsPlan
 ghost use Rattle.vc_types.specs.OfPlan.{padded_height, padded_width};
 
 use crate::cells::CoefficientCells;
+use crate::long::long_plane;
 use crate::narrow::{narrow_plane, narrow_plane_joined};
 use crate::output::output;
 use std::alloc::Global;
@@ -170,8 +171,24 @@ fn component_joined<H: Threads>(
     }
 }
 
-// The same, whatever its coefficients.
+// The same, whatever its coefficients: in 64 bits or, where these aren't enough, in 128.
 fn wide_component(
+    alloc: Global,
+    plan: &Plan,
+    c: Component,
+    cells: &CoefficientCells,
+) -> Result<Plane, NoMemory>
+    requires whole { HoldsComponent plan.now c cells.now }
+    ensures value { IfOk result (λ plane. IsPlaneOf plan.now c cells.now plane) }
+{
+    match long_plane(alloc, plan, c, cells)? {
+        Some(plane) => Ok(plane),
+        None => widest_component(alloc, plan, c, cells),
+    }
+}
+
+// The same in 128 bits, which are always enough.
+fn widest_component(
     alloc: Global,
     plan: &Plan,
     c: Component,

@@ -4,12 +4,12 @@
 
 mod builder;
 mod building;
-mod cell_rect;
 mod cells;
 mod dequantising;
 mod filling;
 mod finishing;
 mod laws;
+mod long;
 mod narrow;
 mod output;
 mod sizes;

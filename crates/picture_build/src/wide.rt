@@ -1,15 +1,135 @@
-ghost use Rattle.std.specs.Prelude.{◌≡◌, ◌≢◌, ◌+◌, ◌*◌, ◌^◌, ◌<◌, ◌≤◌, ℕ, length, unsigned_abs};
+ghost use Rattle.std.specs.Prelude.{◌≡◌, ◌≢◌, ◌+◌, ◌*◌, ◌^◌, ◌<◌, ◌≤◌, ℕ, OnOk, length, pos, unsigned_abs, true};
 ghost use Rattle.vc_types.specs.Lifting.{line_of};
+ghost use Rattle.vc_types.specs.Quantisation.{dequantised};
 ghost use Rattle.vc_types.specs.Subbands.{area};
-ghost use Rattle.vc_slice.specs.Bands.{coefficient_count};
-ghost use Rattle.picture_build.specs.CellRects.{ChangesRect, ChangesRow, HasRow, LiesIn, cell_in};
-ghost use Rattle.picture_build.specs.PartsKept.{AreCells, place_kept};
+ghost use Rattle.vc_slice.specs.Bands.{coefficient_count, numbered_in};
+ghost use Rattle.vc_slice.specs.Numbers.{AreUpTo};
+ghost use Rattle.vc_geometry.specs.CellRects.{ChangesRect, ChangesRow, HasRow, LiesIn, cell_in};
+ghost use Rattle.picture_build.specs.PartsKept.{AreCells, ChangesPart, PutsSound, place_kept};
 
-use crate::cell_rect::CellRect;
 use crate::cells::CoefficientCells;
-use vc_geometry::{bands as band_count, padded};
-use vc_slice::SliceParts;
+use vc_geometry::{CellRect, bands as band_count, padded};
+use vc_quant::Quantiser;
+use vc_slice::{SliceBands, SliceParts, TooWide};
 use vc_types::Component;
+
+// Numbers up to a magnitude, and the quantiser by which they stand for coefficients below 2^60.
+#[derive(Clone, Copy)]
+struct WideNumbers<'a> {
+    numbers: &'a [i32],
+    greatest: u32,
+    quantiser: &'a Quantiser,
+    ghost is_small: { unsigned_abs (dequantised (pos greatest) quantiser.now.index) < 2 ^ 60 },
+}
+
+/// Puts the coefficients that a component's numbers stand for (ST 2042-1, inverse quantisation) at their
+/// places, though they may need more than 32 bits: `greatest` is at least each number's magnitude. TooWide
+/// where a coefficient may have a magnitude of 2^60 or more; cells of the slice hold anything then.
+pub(crate) fn put_wide_numbers(
+    bands: &SliceBands,
+    c: Component,
+    numbers: &[i32],
+    greatest: u32,
+    cells: &mut CoefficientCells,
+) -> Result<(), TooWide>
+    requires count { coefficient_count bands.now.parts.now c ≤ length numbers.now }
+    requires small { AreUpTo greatest (coefficient_count bands.now.parts.now c) numbers.now }
+    requires cells { AreCells bands.now.parts.now c cells.old }
+    ensures only { ChangesPart bands.now.parts.now c cells.old cells.new }
+    ensures all { OnOk result (PutsSound bands.now c (numbered_in bands.now c numbers.now)
+        cells.old cells.new) }
+{
+    let (width, _) = padded(&bands.parts.plan, c);
+    let mut from = 0;
+    for b in 0..band_count(&bands.parts.plan) {
+        let rect = bands.parts.rect(c, b);
+        let quantiser = bands.quantiser(b);
+        if !is_small(&quantiser, greatest) {
+            return Err(TooWide);
+        }
+        let to = CellRect {
+            rect,
+            stride: width as usize,
+        };
+        let quantised = WideNumbers {
+            numbers,
+            greatest,
+            quantiser: &quantiser,
+        };
+        put_wide_rect(cells, &to, quantised, from);
+        from += rect.width as usize * rect.height as usize;
+    }
+    Ok(())
+}
+
+// Whether numbers up to a magnitude stand for coefficients below 2^60.
+fn is_small(quantiser: &Quantiser, greatest: u32) -> bool
+    ensures { result ≡ true
+        → unsigned_abs (dequantised (pos greatest) quantiser.now.index) < 2 ^ 60 }
+{
+    quantiser.dequant(i64::from(greatest)).unsigned_abs() < 1 << 60
+}
+
+// Puts the coefficients that numbers stand for, from one number on, into a rectangle of cells, row by row.
+fn put_wide_rect(
+    cells: &mut CoefficientCells,
+    to: &CellRect,
+    quantised: WideNumbers<'_>,
+    from: usize,
+)
+    requires cells { LiesIn to.now cells.old }
+    requires from { from + area to.now.rect ≤ length quantised.numbers.now }
+    requires small { (j : ℕ) → j < area to.now.rect
+        → unsigned_abs (line_of quantised.numbers.now (from + j)) ≤ quantised.greatest }
+    ensures on { (j : ℕ) → j < area to.now.rect → line_of cells.new (cell_in to.now j)
+        ≡ dequantised (line_of quantised.entry.numbers.now (from + j))
+        quantised.entry.quantiser.now.index }
+    ensures off { ChangesRect to.now cells.old cells.new }
+    ensures length { length cells.new ≡ length cells.old }
+{
+    let width = to.rect.width as usize;
+    for row in 0..to.rect.height as usize {
+        let at = (to.rect.y as usize + row) * to.stride + to.rect.x as usize;
+        put_dequantised_row(cells, at, quantised, from + row * width, width);
+    }
+}
+
+fn put_dequantised_row(
+    cells: &mut CoefficientCells,
+    at: usize,
+    quantised: WideNumbers<'_>,
+    from: usize,
+    width: usize,
+)
+    requires at { at + width ≤ length cells.old }
+    requires range { at + width < 2 ^ 64 }
+    requires from { from + width ≤ length quantised.numbers.now }
+    requires small { (x : ℕ) → x < width
+        → unsigned_abs (line_of quantised.numbers.now (from + x)) ≤ quantised.greatest }
+    ensures on { (x : ℕ) → x < width → line_of cells.new (at + x)
+        ≡ dequantised (line_of quantised.entry.numbers.now (from + x))
+        quantised.entry.quantiser.now.index }
+    ensures off { ChangesRow width at cells.old cells.new }
+    ensures length { length cells.new ≡ length cells.old }
+{
+    for x in 0..width {
+        cells.put(at + x, coefficient(quantised, from + x));
+    }
+}
+
+// The coefficient that one of the numbers stands for.
+#[inline(always)]
+fn coefficient(quantised: WideNumbers<'_>, place: usize) -> i64
+    requires place { place < length quantised.numbers.now }
+    requires small { unsigned_abs (line_of quantised.numbers.now place) ≤ quantised.greatest }
+    ensures value { result
+        ≡ dequantised (line_of quantised.entry.numbers.now place)
+        quantised.entry.quantiser.now.index }
+    ensures range { unsigned_abs result < 2 ^ 60 }
+{
+    let number = quantised.numbers[place];
+    quantised.quantiser.dequant(i64::from(number)) as i64
+}
 
 /// Puts a component's coefficients at their places, however wide they are.
 pub(crate) fn place_wide(

@@ -1,5 +1,5 @@
 use Rattle.std.proofs.Common.{arith, pos, ◌∙◌}
-use Rattle.picture_build.proofs.FilledRows.{rows_more, others_more, rows_all}
+use Rattle.vc_geometry.proofs.FilledRows.{rows_more, others_more, rows_all}
 use Rattle.picture_build.proofs.cells.clear_rect.Goals as goal
 
 pub loop-row-preserved : goal.loop-row-preserved

@@ -1,6 +1,6 @@
 use Rattle.std.proofs.Common.{◌≡◌, length, pos}
-use Rattle.picture_build.specs.CellRects.{ChangesRect}
-use Rattle.picture_build.proofs.FilledRows.{FirstRows}
+use Rattle.vc_geometry.specs.CellRects.{ChangesRect}
+use Rattle.vc_geometry.proofs.FilledRows.{FirstRows}
 use Rattle.picture_build.proofs.cells.clear_rect.Given as goal
 
 abbrev pub invariant-loop-row : goal.invariant-loop-row

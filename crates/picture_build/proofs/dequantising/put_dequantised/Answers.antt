@@ -3,10 +3,10 @@ use Rattle.vc_types.specs.Lifting.{line_of}
 use Rattle.vc_types.specs.Subbands.{area}
 use Rattle.vc_types.specs.TransformParameters.{parameters_of}
 use Rattle.vc_types.proofs.SliceRectangles.{coefficients_before-none, coefficients_before-all}
-use Rattle.picture_build.proofs.DequantisedNumbers.{coefficient_in, narrow_more}
+use Rattle.vc_slice.proofs.DequantisedBlocks.{coefficient_in, narrow_more}
 use Rattle.picture_build.proofs.RowsWithin.{few_cells, rows_within}
 use Rattle.picture_build.proofs.PlacedNumbers.{subband_within, from_more, subband_stands, subband_stays, all_stand}
-use Rattle.picture_build.specs.PartsKept.{numbered_in}
+use Rattle.vc_slice.specs.Bands.{numbered_in}
 use Rattle.picture_build.proofs.dequantising.put_dequantised.Goals as goal
 
 pub loop-b-init : goal.loop-b-init
@@ -18,19 +18,19 @@ loop-b-init c = record {
   length = refl;
 }
 
-pub put_rect-requires-clause-cells : goal.put_rect-requires-clause-cells
-put_rect-requires-clause-cells c =
+pub dequantise_rect-requires-clause-cells : goal.dequantise_rect-requires-clause-cells
+dequantise_rect-requires-clause-cells c =
     let r = c.rect-rect.result in
     rows_within (r.y + r.height) c.padded-width.result.0 _ _ (length c.args.cells.now) (length c.loop-b.cells)
     c.rect-rect.ensures.bottom c.padded-width.ensures.width c.requires.cells c.loop-b.invariant.length
 
-pub put_rect-requires-clause-from : goal.put_rect-requires-clause-from
-put_rect-requires-clause-from c =
+pub dequantise_rect-requires-clause-from : goal.dequantise_rect-requires-clause-from
+dequantise_rect-requires-clause-from c =
     let within = subband_within c.args.bands.now.parts.now c.args.c c.loop-b.b c.loop-b.from c.rect-rect.result (omega arith) c.rect-rect.ensures.value c.loop-b.invariant.from in
     omega (arith, within, c.requires.count)
 
-pub put_rect-requires-clause-small : goal.put_rect-requires-clause-small
-put_rect-requires-clause-small c = λ j h.
+pub dequantise_rect-requires-clause-small : goal.dequantise_rect-requires-clause-small
+dequantise_rect-requires-clause-small c = λ j h.
     let within = subband_within c.args.bands.now.parts.now c.args.c c.loop-b.b c.loop-b.from c.rect-rect.result (omega arith) c.rect-rect.ensures.value c.loop-b.invariant.from in
     rw c.in-Some.ensures.same.1 (c.requires.small (c.loop-b.from + j) (omega (arith, within)))
 
@@ -52,20 +52,20 @@ loop-b-preserved c =
     let numbers = c.args.numbers.now in
     let coeffs = numbered_in bands c.args.c numbers in
     let r = c.rect-rect.result in
-    let new = c.put_rect.new.cells in
+    let new = c.dequantise_rect.new.cells in
     let q = c.in-Some.quantiser in
     let own = c.in-Some.ensures.same.0 ∙ c.quantiser.ensures in
     let within = subband_within parts c.args.c c.loop-b.b c.loop-b.from r (omega arith) c.rect-rect.ensures.value c.loop-b.invariant.from in
     let small : (j : ℕ) → j < area r → unsigned_abs (line_of numbers (c.loop-b.from + j)) ≤ q.greatest =
     λ j h. rw c.in-Some.ensures.same.1 (c.requires.small (c.loop-b.from + j) (omega (arith, within))) in
     let here = coefficient_in bands c.args.c numbers c.loop-b.b c.loop-b.from q.index r (omega arith) c.rect-rect.ensures.value c.loop-b.invariant.from own in
-    let on = λ (j : ℕ) (h : j < area r). c.put_rect.ensures.on j h ∙ here j h in
+    let on = λ (j : ℕ) (h : j < area r). c.dequantise_rect.ensures.on j h ∙ here j h in
     record {
       from = from_more parts c.args.c c.loop-b.b c.loop-b.from r (omega arith) c.rect-rect.ensures.value c.loop-b.invariant.from;
-      on = subband_stands parts c.args.c c.loop-b.b c.loop-b.from r (omega arith) c.rect-rect.ensures.value c.loop-b.invariant.from c.padded-width.result.0 c.padded-width.ensures.width coeffs c.loop-b.cells new on c.put_rect.ensures.off c.loop-b.invariant.on;
+      on = subband_stands parts c.args.c c.loop-b.b c.loop-b.from r (omega arith) c.rect-rect.ensures.value c.loop-b.invariant.from c.padded-width.result.0 c.padded-width.ensures.width coeffs c.loop-b.cells new on c.dequantise_rect.ensures.off c.loop-b.invariant.on;
       narrow = narrow_more bands c.args.c numbers c.loop-b.b c.loop-b.from q.index r (omega arith) c.rect-rect.ensures.value c.loop-b.invariant.from own q.greatest q.is_narrow small c.loop-b.invariant.narrow;
-      off = subband_stays parts c.args.c c.loop-b.b c.loop-b.from r (omega arith) c.rect-rect.ensures.value c.loop-b.invariant.from c.padded-width.result.0 c.padded-width.ensures.width coeffs c.loop-b.cells new on c.put_rect.ensures.off c.args.cells.now c.loop-b.invariant.off;
-      length = c.put_rect.ensures.length ∙ c.loop-b.invariant.length;
+      off = subband_stays parts c.args.c c.loop-b.b c.loop-b.from r (omega arith) c.rect-rect.ensures.value c.loop-b.invariant.from c.padded-width.result.0 c.padded-width.ensures.width coeffs c.loop-b.cells new on c.dequantise_rect.ensures.off c.args.cells.now c.loop-b.invariant.off;
+      length = c.dequantise_rect.ensures.length ∙ c.loop-b.invariant.length;
     }
 
 pub returns-clause-all : goal.returns-clause-all

@@ -1,6 +1,6 @@
 use Rattle.std.proofs.Common.{arith, ◌∙◌}
 use Rattle.vc_types.specs.Lifting.{line_of}
-use Rattle.picture_build.proofs.FilledRows.{rows_more, others_more, rows_all}
+use Rattle.vc_geometry.proofs.FilledRows.{rows_more, others_more, rows_all}
 use Rattle.picture_build.proofs.filling.place_rect.Goals as goal
 
 pub loop-row-preserved : goal.loop-row-preserved

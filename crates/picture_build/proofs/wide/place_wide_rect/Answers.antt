@@ -1,7 +1,7 @@
 use Rattle.std.proofs.Common.{arith, ◌≤◌, ◌+◌, ◌∙◌}
 use Rattle.std.proofs.Math.Nat.{mul-le-mul_right}
 use Rattle.vc_types.specs.Lifting.{line_of}
-use Rattle.picture_build.proofs.FilledRows.{rows_more, others_more, rows_all}
+use Rattle.vc_geometry.proofs.FilledRows.{rows_more, others_more, rows_all}
 use Rattle.picture_build.proofs.wide.place_wide_rect.Goals as goal
 
 pub put_wide_row-requires-clause-range : goal.put_wide_row-requires-clause-range

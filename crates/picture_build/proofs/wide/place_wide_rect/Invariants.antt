@@ -1,7 +1,7 @@
 use Rattle.std.proofs.Common.{◌≡◌, length}
 use Rattle.vc_types.specs.Lifting.{line_of}
-use Rattle.picture_build.specs.CellRects.{ChangesRect}
-use Rattle.picture_build.proofs.FilledRows.{FirstRows}
+use Rattle.vc_geometry.specs.CellRects.{ChangesRect}
+use Rattle.vc_geometry.proofs.FilledRows.{FirstRows}
 use Rattle.picture_build.proofs.wide.place_wide_rect.Given as goal
 
 abbrev pub invariant-loop-row : goal.invariant-loop-row

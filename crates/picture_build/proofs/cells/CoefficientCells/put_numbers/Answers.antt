@@ -1,7 +1,8 @@
 use Rattle.std.proofs.Common.{◌≡◌, arith, sym, ap, subst, ◌∙◌, ℤ, List, length, drop, take, ◌++◌}
 use Rattle.std.proofs.lemmas.Result.{on_ok_weaker}
 use Rattle.picture_build.specs.Cells.{cells_in}
-use Rattle.picture_build.specs.PartsKept.{ChangesPart, PutsCoefficients, numbered_in}
+use Rattle.picture_build.specs.PartsKept.{ChangesPart, PutsCoefficients}
+use Rattle.vc_slice.specs.Bands.{numbered_in}
 use Rattle.picture_build.proofs.ClearedParts.{written_through, both_change, both_put, low_changes, low_put}
 use Rattle.picture_build.proofs.TwoParts.{length_seen}
 use Rattle.picture_build.proofs.cells.CoefficientCells.put_numbers.Goals as goal
