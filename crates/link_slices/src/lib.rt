@@ -3,8 +3,10 @@
 #![tactic(auto)]
 
 mod comparing;
-mod slice_out;
-mod slices_out;
+mod grouping;
+mod out_run;
+mod runs_out;
 
 pub use comparing::same_job;
-pub use slices_out::SlicesOut;
+pub use grouping::runs_of;
+pub use runs_out::RunsOut;

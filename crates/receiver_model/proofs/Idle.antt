@@ -1,5 +1,5 @@
 -- Before a session stands a receiver has nothing to do but to judge.
-use Rattle.std.proofs.Common.{◌≡◌, ℕ, false, refl, ap, ◌∙◌}
+use Rattle.std.proofs.Common.{◌≡◌, ℕ, false, refl, ap, sym, subst, ◌∙◌}
 use Rattle.std.proofs.Common.{List, [], ◌∷◌, ◌++◌, length, Option, Some, None, arith}
 use Rattle.std.specs.List.{flat_map}
 use Rattle.std.specs.Option.{option_map_or}
@@ -11,9 +11,9 @@ use Rattle.machine_model.specs.Next.{feeder_run, all_releasing, releasing, taken
 use Rattle.link_model.specs.Output.{last_so_far, output_so_far}
 use Rattle.machine_model.specs.Places.{Answered}
 use Rattle.link_model.specs.Session.{Session, just_opened, sessions_of}
-use Rattle.receiver_model.specs.Exchanging.{Exchange, Proposed, Fetched, all_exchanged, out_at}
-use Rattle.receiver_model.specs.Exchanging.{back_from, takes_done}
-use Rattle.receiver_model.specs.Receptions.{StandingSession, Reception}
+use Rattle.receiver_model.specs.Exchanging.{Exchange, Proposed, Fetched, Withdrawn, Made, all_exchanged}
+use Rattle.receiver_model.specs.Exchanging.{back_from, out_at, takes_done, takes_dones}
+use Rattle.receiver_model.specs.Receptions.{RunOut, StandingSession, Reception}
 use Rattle.receiver_model.specs.Releasing.{releases_up_to, bytes_up_to, releases_all}
 use Rattle.receiver_model.specs.Releasing.{all_released_bytes}
 use Rattle.receiver_model.specs.Standing.{StandsFor}
@@ -35,15 +35,38 @@ unwanted : (r : Reception) (done : Answered) → r.standing ≡ None → takes_d
 unfolding takes_done
 unwanted r done none = grind arith
 
+all_unwanted : (r : Reception) (dones : List Answered) → r.standing ≡ None → takes_dones r dones ≡ r
+all_unwanted r [] none = refl
+all_unwanted r (done ∷ dones) none =
+    ap (λ (v : Reception). takes_dones v dones) (unwanted r done none) ∙ all_unwanted r dones none
+
+-- what is out makes no difference
+but_out : (r v : Reception) (out : List RunOut) → IsSame (record r { out = out }) v → IsSame r v
+but_out r v out same = record {
+  size = same.size;
+  standing = same.standing;
+  counts = same.counts;
+  answers = same.answers;
+  field = same.field;
+  ended = same.ended;
+}
+
 pub idle_exchanged : (xs : List Exchange) (r : Reception) → r.standing ≡ None
     → IsSame r (all_exchanged r xs)
 idle_exchanged [] r none = grind arith
-idle_exchanged (Proposed job None ∷ xs) r none = idle_exchanged xs r none
-idle_exchanged (Proposed job (Some place) ∷ xs) r none =
-    grind (arith, idle_exchanged xs (record r { out = r.out ++ out_at job place ∷ [] }) none)
+idle_exchanged (Proposed jobs None ∷ xs) r none = idle_exchanged xs r none
+idle_exchanged (Proposed jobs (Some place) ∷ xs) r none =
+    let out : List RunOut = r.out ++ out_at jobs place ∷ [] in
+    but_out r _ out (idle_exchanged xs (record r { out = out }) none)
 idle_exchanged (Fetched place None ∷ xs) r none = idle_exchanged xs r none
-idle_exchanged (Fetched place (Some done) ∷ xs) r none =
-    grind (arith, unwanted, idle_exchanged xs (back_from r place) none)
+idle_exchanged (Fetched place (Some dones) ∷ xs) r none =
+    subst (λ (v : Reception). IsSame r (all_exchanged v xs)) (sym (all_unwanted (back_from r place) dones none))
+    (but_out r _ (back_from r place).out (idle_exchanged xs (back_from r place) none))
+idle_exchanged (Withdrawn place ∷ xs) r none =
+    but_out r _ (back_from r place).out (idle_exchanged xs (back_from r place) none)
+idle_exchanged (Made dones ∷ xs) r none =
+    subst (λ (v : Reception). IsSame r (all_exchanged v xs)) (sym (all_unwanted r dones none))
+    (idle_exchanged xs r none)
 
 pub nothing_released : (r : Reception) → r.standing ≡ None → releases_all r ≡ r
 unfolding releases_up_to

@@ -1,8 +1,10 @@
--- The slices that are out are such as a picture keeps, whatever becomes of them, so that the slice
--- of a job that a datagram offers isn't out.
-use Rattle.std.proofs.Common.{◌≡◌, ℕ, zero, suc, ◌≤◌, Bool, true, false, refl, ap, sym, subst}
+-- The slices that are out are such as a picture keeps, whatever becomes of their runs, so that the
+-- slice of a job that a datagram offers isn't out.
+use Rattle.std.proofs.Common.{◌≡◌, ◌≢◌, ℕ, zero, suc, ◌≤◌, Bool, true, false, cond, refl, ap, sym, subst, ◌∙◌, eqb, eqb-true, ne_eqb}
 use Rattle.std.proofs.Common.{List, [], ◌∷◌, ◌++◌, Option, Some, None, arith}
-use Rattle.std.specs.Prelude.{is_some, filter}
+use Rattle.std.specs.Prelude.{◌&&◌, is_some, filter, map}
+use Rattle.std.specs.List.{list_all, list_any}
+use Rattle.std.proofs.lemmas.Bool.{and_parts, and_from, false≢true}
 use Rattle.machine_model.specs.Feeders.{kept_job}
 use Rattle.machine_model.specs.Places.{Job, Answered}
 use Rattle.link_model.specs.Session.{HeardSession, hears, sessions_of}
@@ -10,13 +12,14 @@ use Rattle.link_model.specs.Windows.{Releasable}
 use Rattle.link_model.proofs.Hearing.{sessions_of_more}
 use Rattle.receiver_model.specs.Entering.{before_releases, datagram_jobs}
 use Rattle.receiver_model.specs.Entering.{takes_datagram, takes_end}
-use Rattle.receiver_model.specs.Exchanging.{Exchange, Proposed, Fetched, all_exchanged, out_at}
-use Rattle.receiver_model.specs.Exchanging.{back_from, is_job_among, not_at, takes_done}
+use Rattle.receiver_model.specs.Exchanging.{Exchange, Proposed, Fetched, Withdrawn, Made, all_exchanged}
+use Rattle.receiver_model.specs.Exchanging.{back_from, is_job_among, jobs_number, not_at, out_at, takes_done}
+use Rattle.receiver_model.specs.Exchanging.{takes_dones}
 use Rattle.receiver_model.specs.Judging.{keeps_datagram, session_opened}
-use Rattle.receiver_model.specs.Receptions.{Reception, SliceOut}
+use Rattle.receiver_model.specs.Receptions.{Reception, RunOut}
 use Rattle.receiver_model.specs.Releasing.{book_count, releases_all}
 use Rattle.receiver_model.specs.Releasing.{releases_picture_of, releases_up_to}
-use Rattle.receiver_model.specs.SlicesOut.{AreOutKept, ArePutsOf, is_job_out}
+use Rattle.receiver_model.specs.SlicesOut.{AreOutKept, ArePutsOf, is_job_out, is_put_of}
 use Rattle.receiver_model.specs.Standing.{StandsForHeard}
 use Rattle.receiver_model.proofs.Followed.{opened_same}
 use Rattle.receiver_model.proofs.DatagramJobs.{only_jobs}
@@ -27,21 +30,46 @@ pub takes_done-out : (r : Reception) (done : Answered) → (takes_done r done).o
 unfolding takes_done
 takes_done-out r done = grind arith
 
+pub takes_dones-out : (r : Reception) (dones : List Answered) → (takes_dones r dones).out ≡ r.out
+takes_dones-out r [] = refl
+takes_dones-out r (done ∷ dones) = takes_dones-out (takes_done r done) dones ∙ takes_done-out r done
+
 module _ (size : ℕ) (hs : List HeardSession) where
   abbrev IsKeptSlice : ℕ → ℕ → Type 0
   IsKeptSlice n i = is_some (kept_job size hs n i) ≡ true
 
   -- ---- fewer, and one more
 
-  kept_filter : (test : SliceOut → Bool) (out : List SliceOut) → AreOutKept size hs out
+  kept_filter : (test : RunOut → Bool) (out : List RunOut) → AreOutKept size hs out
       → AreOutKept size hs (filter test out)
   kept_filter test [] kept = tt
-  kept_filter test (slice ∷ rest) kept = grind (arith, kept_filter test rest kept.1)
+  kept_filter test (run ∷ rest) kept = by_test (test run) (kept_filter test rest kept.1)
+    where
+      by_test : (b : Bool) → AreOutKept size hs (filter test rest)
+          → AreOutKept size hs (cond b (run ∷ filter test rest) (filter test rest))
+      by_test true left = (kept.0, left)
+      by_test false left = left
 
-  kept_more : (out : List SliceOut) (slice : SliceOut) → AreOutKept size hs out
-      → IsKeptSlice slice.number slice.index → AreOutKept size hs (out ++ slice ∷ [])
-  kept_more [] slice kept its = (its, tt)
-  kept_more (first ∷ rest) slice kept its = (kept.0, kept_more rest slice kept.1 its)
+  abbrev IsKeptRun : ℕ → List ℕ → Type 0
+  IsKeptRun n indices = list_all (λ i. is_some (kept_job size hs n i)) indices ≡ true
+
+  kept_more : (out : List RunOut) (run : RunOut) → AreOutKept size hs out
+      → IsKeptRun run.number run.indices → AreOutKept size hs (out ++ run ∷ [])
+  kept_more [] run kept its = (its, tt)
+  kept_more (first ∷ rest) run kept its = (kept.0, kept_more rest run kept.1 its)
+
+  -- a run of jobs that may be put
+  kept_run : (jobs : List Job) (n : ℕ)
+      → ((job : Job) → is_job_among jobs job ≡ true → IsKeptSlice job.number job.index)
+      → (run : List Job) → list_all (is_put_of jobs n) run ≡ true
+      → IsKeptRun n (map (λ (job : Job). job.index) run)
+  kept_run jobs n each [] puts = refl
+  kept_run jobs n each (job ∷ run) puts =
+      let both = and_parts (is_put_of jobs n job) (list_all (is_put_of jobs n) run) puts in
+      let own = and_parts (is_job_among jobs job) (eqb job.number n) both.0 in
+      let its : IsKeptSlice n job.index =
+      subst (λ (m : ℕ). IsKeptSlice m job.index) (eqb-true job.number n own.1) (each job own.0) in
+      and_from _ _ its (kept_run jobs n each run both.1)
 
   -- ---- calls to the places
 
@@ -50,17 +78,22 @@ module _ (size : ℕ) (hs : List HeardSession) where
       → (xs : List Exchange) (r : Reception) → AreOutKept size hs r.out → ArePutsOf jobs xs
       → AreOutKept size hs (all_exchanged r xs).out
   exchanges_kept jobs each [] r kept offers = kept
-  exchanges_kept jobs each (Proposed job None ∷ xs) r kept offers =
+  exchanges_kept jobs each (Proposed run None ∷ xs) r kept offers =
       exchanges_kept jobs each xs r kept offers.1
-  exchanges_kept jobs each (Proposed job (Some place) ∷ xs) r kept offers =
-      exchanges_kept jobs each xs (record r { out = r.out ++ out_at job place ∷ [] })
-      (kept_more r.out (out_at job place) kept (each job offers.0)) offers.1
+  exchanges_kept jobs each (Proposed run (Some place) ∷ xs) r kept offers =
+      exchanges_kept jobs each xs (record r { out = r.out ++ out_at run place ∷ [] })
+      (kept_more r.out (out_at run place) kept (kept_run jobs (jobs_number run) each run offers.0)) offers.1
   exchanges_kept jobs each (Fetched place None ∷ xs) r kept offers =
       exchanges_kept jobs each xs r kept offers
-  exchanges_kept jobs each (Fetched place (Some done) ∷ xs) r kept offers =
-      exchanges_kept jobs each xs (takes_done (back_from r place) done)
-      (subst (AreOutKept size hs) (sym (takes_done-out (back_from r place) done))
+  exchanges_kept jobs each (Fetched place (Some dones) ∷ xs) r kept offers =
+      exchanges_kept jobs each xs (takes_dones (back_from r place) dones)
+      (subst (AreOutKept size hs) (sym (takes_dones-out (back_from r place) dones))
       (kept_filter (not_at place) r.out kept)) offers
+  exchanges_kept jobs each (Withdrawn place ∷ xs) r kept offers =
+      exchanges_kept jobs each xs (back_from r place) (kept_filter (not_at place) r.out kept) offers
+  exchanges_kept jobs each (Made dones ∷ xs) r kept offers =
+      exchanges_kept jobs each xs (takes_dones r dones)
+      (subst (AreOutKept size hs) (sym (takes_dones-out r dones)) kept) offers
 
   -- ---- releases
 
@@ -83,17 +116,41 @@ module _ (size : ℕ) (hs : List HeardSession) where
 
   -- ---- one that no picture keeps isn't out
 
+  not_of_run : (job : Job) → kept_job size hs job.number job.index ≡ None → (n : ℕ) (indices : List ℕ)
+      → IsKeptRun n indices → (eqb n job.number && list_any (λ (i : ℕ). eqb i job.index) indices) ≡ false
+  not_of_run job none n indices kept = by_number (eqb n job.number) refl
+    where
+      not_among : (is : List ℕ) → IsKeptRun job.number is → list_any (λ (i : ℕ). eqb i job.index) is ≡ false
+      not_among [] kept = refl
+      not_among (i ∷ is) kept =
+          let both = and_parts (is_some (kept_job size hs job.number i)) (list_all (λ (k : ℕ). is_some (kept_job size hs job.number k)) is) kept in
+          let other : i ≢ job.index = (λ e. false≢true (sym (ap is_some none) ∙ subst (λ (k : ℕ). is_some (kept_job size hs job.number k) ≡ true) e both.0)) in
+          rw (ne_eqb i job.index other) (not_among is both.1)
+
+      by_number : (b : Bool) → eqb n job.number ≡ b → (b && list_any (λ (i : ℕ). eqb i job.index) indices) ≡ false
+      by_number true e = not_among indices (subst (λ (m : ℕ). IsKeptRun m indices) (eqb-true n job.number e) kept)
+      by_number false e = refl
+
   unkept_not_out : (job : Job) → kept_job size hs job.number job.index ≡ None
-      → (out : List SliceOut) → AreOutKept size hs out → is_job_out out job ≡ false
+      → (out : List RunOut) → AreOutKept size hs out → is_job_out out job ≡ false
   unkept_not_out job none [] kept = refl
-  unkept_not_out job none (slice ∷ rest) kept = grind (arith, unkept_not_out job none rest kept.1)
+  unkept_not_out job none (run ∷ rest) kept =
+      grind (arith, not_of_run job none run.number run.indices kept.0, unkept_not_out job none rest kept.1)
 
   -- ---- what is kept stays so
 
-  more_heard : size ≤ 8 → (d : List ℕ) (out : List SliceOut) → AreOutKept size hs out
+  more_heard : size ≤ 8 → (d : List ℕ) (out : List RunOut) → AreOutKept size hs out
       → AreOutKept size (hears hs d) out
   more_heard small d [] kept = tt
-  more_heard small d (slice ∷ rest) kept = grind (arith, job_stays, more_heard small d rest kept.1)
+  more_heard small d (run ∷ rest) kept = (stay run.indices kept.0, more_heard small d rest kept.1)
+    where
+      stay : (is : List ℕ) → IsKeptRun run.number is
+          → list_all (λ i. is_some (kept_job size (hears hs d) run.number i)) is ≡ true
+      stay [] its = refl
+      stay (i ∷ is) its =
+          let both = and_parts (is_some (kept_job size hs run.number i)) (list_all (λ (k : ℕ). is_some (kept_job size hs run.number k)) is) its in
+          let now : is_some (kept_job size (hears hs d) run.number i) ≡ true = (let was = both.0 in grind (arith, job_stays)) in
+          and_from _ _ now (stay is both.1)
 
 -- ---- a datagram
 

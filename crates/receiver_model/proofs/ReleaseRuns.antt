@@ -18,7 +18,7 @@ use Rattle.link_model.specs.Windows.{WindowPast, past_releases, window_of, relea
 use Rattle.link_model.specs.Windows.{first_of, as_releasable, next_release}
 use Rattle.link_model.specs.declared.tally.Tally.{Tally}
 use Rattle.link_model.proofs.WindowStands.{next_is, releasable_next}
-use Rattle.receiver_model.specs.Receptions.{StandingSession, Reception, SliceOut}
+use Rattle.receiver_model.specs.Receptions.{StandingSession, Reception, RunOut}
 use Rattle.receiver_model.specs.Releasing.{next_picture, released_bytes}
 use Rattle.receiver_model.specs.Releasing.{releases_up_to, bytes_up_to, book_count, is_of_other}
 use Rattle.receiver_model.specs.Standing.{out_without}
@@ -40,11 +40,11 @@ unanswered_same f g m same (Some kept) = grind (arith, filter_agree)
 
 -- ---- slices that are out
 
-pub none_go : (out : List SliceOut) → out ≡ out_without [] out
+pub none_go : (out : List RunOut) → out ≡ out_without [] out
 none_go [] = refl
-none_go (slice ∷ out) = ap (λ (l : List SliceOut). slice ∷ l) (none_go out)
+none_go (slice ∷ out) = ap (λ (l : List RunOut). slice ∷ l) (none_go out)
 
-both_go : (n : ℕ) (ns : List ℕ) (out : List SliceOut)
+both_go : (n : ℕ) (ns : List ℕ) (out : List RunOut)
     → out_without ns (filter (is_of_other n) out) ≡ out_without (n ∷ ns) out
 both_go n ns [] = refl
 both_go n ns (slice ∷ out) = grind (arith, both_go n ns out)

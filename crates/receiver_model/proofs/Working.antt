@@ -1,12 +1,13 @@
 -- A receiver at work: its window isn't done with all pictures that are let go. It uses an answer
 -- where the feeder does.
-use Rattle.std.proofs.Common.{◌≡◌, ℕ, ◌<◌, Bool, true, false, refl, ap, sym, List, [], ◌∷◌, ◌++◌}
+use Rattle.std.proofs.Common.{◌≡◌, ℕ, ◌<◌, Bool, true, false, refl, ap, sym, subst, List, [], ◌∷◌, ◌++◌}
 use Rattle.std.proofs.Common.{length, Option, Some, None, ◌∙◌, arith, cond}
 use Rattle.std.specs.Prelude.{◌&&◌, ◌||◌, ◌⊎◌, not}
 use Rattle.std.specs.List.{flat_map, last_or}
 use Rattle.std.specs.Option.{option_and_then, option_map_or}
 use Rattle.std.proofs.lemmas.Bool.{and_parts, or_parts, false≢true, not-true, or_right}
 use Rattle.std.proofs.lemmas.Grind.{common_steps}
+use Rattle.std.proofs.lemmas.List.Sums.{fold-append}
 use Rattle.link_model.specs.Books.{Book, book_of}
 use Rattle.machine_model.specs.Feeders.{Feeder, EnteredSession, session_opening}
 use Rattle.machine_model.specs.Feeders.{kept_job, picture_keeps, heard_pictures, let_go_pictures}
@@ -24,9 +25,9 @@ use Rattle.link_model.specs.declared.tally.Tally.{Tally}
 use Rattle.link_model.proofs.WindowStands.{book_is}
 use Rattle.vc_types.specs.Subbands.{slice_count}
 use Rattle.receiver_model.specs.Exchanging.{book_job, window_job, own_job, is_wanted, takes_done}
-use Rattle.receiver_model.specs.Exchanging.{Exchange, Proposed, Fetched, out_at, back_from}
-use Rattle.receiver_model.specs.Exchanging.{all_exchanged, dones_in}
-use Rattle.receiver_model.specs.Receptions.{StandingSession, Reception, FirstField, SliceOut}
+use Rattle.receiver_model.specs.Exchanging.{Exchange, Proposed, Fetched, Withdrawn, Made, out_at}
+use Rattle.receiver_model.specs.Exchanging.{all_exchanged, back_from, dones_in, takes_dones}
+use Rattle.receiver_model.specs.Receptions.{StandingSession, Reception, FirstField, RunOut}
 use Rattle.receiver_model.specs.Receptions.{answers_at, kept_answer, keeps_answer}
 use Rattle.receiver_model.specs.Standing.{past_fields, past_counts}
 use Rattle.machine_model.specs.Interleavings.{AreOwnAnswers}
@@ -213,24 +214,53 @@ module _ (r : Reception) (size : ℕ) (f : Feeder) (hs : List HeardSession) (p :
 
   -- ---- slices that are out
 
-  pub with_out : (out : List SliceOut) → IsWorking (record r { out = out }) size f hs p st t
+  pub with_out : (out : List RunOut) → IsWorking (record r { out = out }) size f hs p st t
   with_out out = grind arith
 
 -- ---- one call to the places after another
+
+dones_working : (size : ℕ) (hs : List HeardSession) (p : WindowPast) (st : StandingSession) (t : Tally)
+    (dones : List Answered) (r : Reception) (f : Feeder) → IsWorking r size f hs p st t
+    → AreDecodings dones → IsWorking (takes_dones r dones) size (taken_back size f dones) hs p st t
+dones_working size hs p st t [] r f works right = works
+dones_working size hs p st t (done ∷ dones) r f works right =
+    dones_working size hs p st t dones (takes_done r done) (takes_answer size f done)
+    (takes_working r size f hs p st t works done right.0) right.1
+
+both_right : (ds es : List Answered) → AreDecodings (ds ++ es) → AreDecodings ds × AreDecodings es
+both_right [] es right = (tt, right)
+both_right (d ∷ ds) es right = let rest = both_right ds es right.1 in ((right.0, rest.0), rest.1)
+
+taken_then : (size : ℕ) (f : Feeder) (ds es : List Answered)
+    → taken_back size f (ds ++ es) ≡ taken_back size (taken_back size f ds) es
+taken_then size f ds es = fold-append (takes_answer size) f ds es
 
 pub all_working : (size : ℕ) (hs : List HeardSession) (p : WindowPast) (st : StandingSession)
     (t : Tally) (xs : List Exchange) (r : Reception) (f : Feeder)
     → IsWorking r size f hs p st t → AreDecodings (dones_in xs)
     → IsWorking (all_exchanged r xs) size (taken_back size f (dones_in xs)) hs p st t
 all_working size hs p st t [] r f works right = works
-all_working size hs p st t (Proposed job None ∷ xs) r f works right =
+all_working size hs p st t (Proposed jobs None ∷ xs) r f works right =
     all_working size hs p st t xs r f works right
-all_working size hs p st t (Proposed job (Some place) ∷ xs) r f works right =
-    all_working size hs p st t xs (record r { out = r.out ++ out_at job place ∷ [] }) f
-    (with_out r size f hs p st t works (r.out ++ out_at job place ∷ [])) right
+all_working size hs p st t (Proposed jobs (Some place) ∷ xs) r f works right =
+    all_working size hs p st t xs (record r { out = r.out ++ out_at jobs place ∷ [] }) f
+    (with_out r size f hs p st t works (r.out ++ out_at jobs place ∷ [])) right
 all_working size hs p st t (Fetched place None ∷ xs) r f works right =
     all_working size hs p st t xs r f works right
-all_working size hs p st t (Fetched place (Some done) ∷ xs) r f works right =
-    all_working size hs p st t xs (takes_done (back_from r place) done) (takes_answer size f done)
-    (takes_working (back_from r place) size f hs p st t
-    (with_out r size f hs p st t works (back_from r place).out) done right.0) right.1
+all_working size hs p st t (Fetched place (Some dones) ∷ xs) r f works right =
+    let both = both_right dones (dones_in xs) right in
+    let back : IsWorking (back_from r place) size f hs p st t =
+    with_out r size f hs p st t works (back_from r place).out in
+    subst (λ (g : Feeder). IsWorking (all_exchanged (takes_dones (back_from r place) dones) xs) size g hs p st t)
+    (sym (taken_then size f dones (dones_in xs)))
+    (all_working size hs p st t xs (takes_dones (back_from r place) dones) (taken_back size f dones)
+    (dones_working size hs p st t dones (back_from r place) f back both.0) both.1)
+all_working size hs p st t (Withdrawn place ∷ xs) r f works right =
+    all_working size hs p st t xs (back_from r place) f
+    (with_out r size f hs p st t works (back_from r place).out) right
+all_working size hs p st t (Made dones ∷ xs) r f works right =
+    let both = both_right dones (dones_in xs) right in
+    subst (λ (g : Feeder). IsWorking (all_exchanged (takes_dones r dones) xs) size g hs p st t)
+    (sym (taken_then size f dones (dones_in xs)))
+    (all_working size hs p st t xs (takes_dones r dones) (taken_back size f dones)
+    (dones_working size hs p st t dones r f works both.0) both.1)

@@ -1,7 +1,7 @@
--- What a receiver offers to places, and what it takes back (this project's own). A decoded slice is
--- used only where its plan, number, index and bytes are the receiver's own.
+-- What a receiver offers to places, and what it takes back (this project's own): runs of slices of one
+-- picture. A decoded slice is used only where its plan, number, index and bytes are the receiver's own.
 use Rattle.std.specs.Prelude.{ℕ, ◌==◌, Bool, false, ◌&&◌, not, is_some, is_none, List}
-use Rattle.std.specs.Prelude.{if◌then◌else◌, [], ◌∷◌, ◌++◌, length, filter, filter_map, fold}
+use Rattle.std.specs.Prelude.{if◌then◌else◌, [], ◌∷◌, ◌++◌, length, filter, filter_map, fold, map}
 use Rattle.std.specs.Prelude.{Option, Some, None}
 use Rattle.std.specs.List.{flat_map, list_any, range_with_len}
 use Rattle.std.specs.Option.{option_and_then, option_map, option_map_or}
@@ -10,7 +10,7 @@ use Rattle.machine_model.specs.Feeding.{is_same_job}
 use Rattle.machine_model.specs.Places.{Job, Answered}
 use Rattle.link_model.specs.Session.{Fragment}
 use Rattle.link_model.specs.Windows.{Window, book_at, number_by, released_up_to}
-use Rattle.receiver_model.specs.Receptions.{StandingSession, SliceOut, Reception}
+use Rattle.receiver_model.specs.Receptions.{StandingSession, RunOut, Reception}
 use Rattle.receiver_model.specs.Receptions.{kept_answer, keeps_answer}
 
 -- ---- the jobs of slices
@@ -66,47 +66,69 @@ unreleased_job st n i =
 abbrev pub own_job : Reception → ℕ → ℕ → Option Job
 own_job r n i = option_and_then (λ st. unreleased_job st n i) r.standing
 
--- it is the receiver's own job, and its slice has no answer
+-- it is the receiver's own job
+abbrev pub is_own : Reception → Job → Bool
+is_own r job = option_map_or (is_same_job job) (own_job r job.number job.index) false
+
+-- and its slice has no answer
 abbrev pub is_wanted : Reception → Answered → Bool
 is_wanted r done =
-    option_map_or (is_same_job done.job) (own_job r done.job.number done.job.index) false
-    && is_none (kept_answer r.answers done.job.number done.job.index)
+    is_own r done.job && is_none (kept_answer r.answers done.job.number done.job.index)
 
 unfoldable pub takes_done : Reception → Answered → Reception
 takes_done r done =
     if is_wanted r done then record r { answers = keeps_answer r.answers done } else r
 
+abbrev pub takes_dones : Reception → List Answered → Reception
+takes_dones r dones = fold takes_done r dones
+
 -- ---- one call after another
 
--- a job was offered, and has the place that was answered, if one was; a place was asked, and gave
--- what was decoded there, if it was
+-- the jobs of a run were offered, and have the place that was answered, if one was; a place was asked,
+-- and gave what its run was decoded to, if it was; a run that waited was taken back from its place;
+-- jobs were decoded by the receiver itself, of which places aren't told
 pub data Exchange : Type 0 where
-  Proposed : (job : Job) → (place : Option ℕ) → Exchange
-  Fetched : (place : ℕ) → (done : Option Answered) → Exchange
+  Proposed : (jobs : List Job) → (place : Option ℕ) → Exchange
+  Fetched : (place : ℕ) → (dones : Option (List Answered)) → Exchange
+  Withdrawn : (place : ℕ) → Exchange
+  Made : (dones : List Answered) → Exchange
 
-abbrev pub out_at : Job → ℕ → SliceOut
-out_at job place = record { number = job.number; index = job.index; place = place }
+-- the number of the picture of which these are jobs, that of the first one
+abbrev pub jobs_number : List Job → ℕ
+jobs_number [] = 0
+jobs_number (job ∷ jobs) = job.number
 
-abbrev pub not_at : ℕ → SliceOut → Bool
-not_at place slice = not (slice.place == place)
+abbrev pub out_at : List Job → ℕ → RunOut
+out_at jobs place = record {
+  number = jobs_number jobs;
+  indices = map (λ job. job.index) jobs;
+  place = place;
+}
+
+abbrev pub not_at : ℕ → RunOut → Bool
+not_at place run = not (run.place == place)
 
 abbrev pub back_from : Reception → ℕ → Reception
 back_from r place = record r { out = filter (not_at place) r.out }
 
 abbrev pub exchanged : Reception → Exchange → Reception
-exchanged r (Proposed job None) = r
-exchanged r (Proposed job (Some place)) = record r { out = r.out ++ out_at job place ∷ [] }
+exchanged r (Proposed jobs None) = r
+exchanged r (Proposed jobs (Some place)) = record r { out = r.out ++ out_at jobs place ∷ [] }
 exchanged r (Fetched place None) = r
-exchanged r (Fetched place (Some done)) = takes_done (back_from r place) done
+exchanged r (Fetched place (Some dones)) = takes_dones (back_from r place) dones
+exchanged r (Withdrawn place) = back_from r place
+exchanged r (Made dones) = takes_dones r dones
 
 abbrev pub all_exchanged : Reception → List Exchange → Reception
 all_exchanged r exchanges = fold exchanged r exchanges
 
 abbrev pub given_back : Exchange → List Answered
-given_back (Proposed job place) = []
+given_back (Proposed jobs place) = []
 given_back (Fetched place None) = []
-given_back (Fetched place (Some done)) = done ∷ []
+given_back (Fetched place (Some dones)) = dones
+given_back (Withdrawn place) = []
+given_back (Made dones) = dones
 
--- what was decoded, in the order in which it was given back
+-- what was decoded, in the order in which it was given back or made
 abbrev pub dones_in : List Exchange → List Answered
 dones_in exchanges = flat_map given_back exchanges

@@ -1,7 +1,7 @@
 -- What a receiver has (this project's own): the session that stands and its window, the answers to
--- slices that came back, the slices that are out at places, and the counts.
+-- slices that came back, the runs that are out at places, and the counts.
 use Rattle.std.specs.Prelude.{ℕ, ◌==◌, Bool, false, if◌then◌else◌, List, [], ◌∷◌, filter, not}
-use Rattle.std.specs.Prelude.{replicate, slice_get, slice_set, Option, Some, None, Result}
+use Rattle.std.specs.Prelude.{is_some, replicate, slice_get, slice_set, Option, Some, None, Result}
 use Rattle.std.specs.Option.{option_and_then}
 use Rattle.link_model.specs.Judgement.{no_counts}
 use Rattle.machine_model.specs.Places.{Answered}
@@ -31,10 +31,10 @@ pub record PictureAnswers : Type 0 where
   pub parameters : Parameters
   pub slices : List (Option Decoding)
 
--- a slice of a picture, and the place that it was put into
-pub record SliceOut : Type 0 where
+-- slices of a picture, and the place that they were put into together
+pub record RunOut : Type 0 where
   pub number : ℕ
-  pub index : ℕ
+  pub indices : List ℕ
   pub place : ℕ
 
 -- the first field of a frame whose second one isn't released yet
@@ -43,13 +43,13 @@ pub record FirstField : Type 0 where
   pub planes : Planes
 
 -- How many pictures are open at a time; the last session; the counts; the answers of pictures that
--- aren't released; the slices that are out; a first field that waits; whether the input has ended.
+-- aren't released; the runs that are out; a first field that waits; whether the input has ended.
 pub record Reception : Type 0 where
   pub size : ℕ
   pub standing : Option StandingSession
   pub counts : Tally
   pub answers : List PictureAnswers
-  pub out : List SliceOut
+  pub out : List RunOut
   pub field : Option FirstField
   pub has_ended : Bool
 
@@ -96,6 +96,20 @@ keeps_answer [] done = answers_with (no_answers done.job.number done.job.plan) d
 keeps_answer (a ∷ rest) done =
     if a.number == done.job.number then answers_with a done ∷ rest
     else a ∷ keeps_answer rest done
+
+-- of one picture, each of these answers whose slice has none
+abbrev pub takes_new : PictureAnswers → List Answered → PictureAnswers
+takes_new a [] = a
+takes_new a (done ∷ dones) = takes_new
+    (if is_some (answer_at a.slices done.job.index) then a else answers_with a done) dones
+
+-- the same of all pictures
+abbrev pub keeps_new : List PictureAnswers → List Answered → List PictureAnswers
+keeps_new answers [] = answers
+keeps_new answers (done ∷ dones) = keeps_new
+    (if is_some (kept_answer answers done.job.number done.job.index)
+    then answers else keeps_answer answers done)
+    dones
 
 -- the answers of all pictures but one
 abbrev pub answers_without : List PictureAnswers → ℕ → List PictureAnswers

@@ -15,7 +15,7 @@ use Rattle.vc_types.specs.SameValues.{same_parameters}
 use Rattle.vc_types.specs.SequenceHeader.{Sequence}
 use Rattle.vc_types.specs.Slices.{Coefficients, slice_coefficients}
 use Rattle.vc_types.specs.TransformParameters.{Parameters}
-use Rattle.receiver_model.specs.Receptions.{StandingSession, Decoding, PictureAnswers, SliceOut}
+use Rattle.receiver_model.specs.Receptions.{StandingSession, Decoding, PictureAnswers, RunOut}
 use Rattle.receiver_model.specs.Receptions.{FirstField, Reception, answers_at, answer_at}
 use Rattle.receiver_model.specs.Receptions.{answers_without}
 
@@ -106,13 +106,13 @@ counts_released t s field picture planes = record t {
 
 -- ---- one release
 
-abbrev pub is_of_other : ℕ → SliceOut → Bool
-is_of_other n slice = not (slice.number == n)
+abbrev pub is_of_other : ℕ → RunOut → Bool
+is_of_other n run = not (run.number == n)
 
--- the places where its slices are: each is freed
+-- the places where runs of it are: each is freed
 abbrev pub freed_places : Reception → ℕ → List ℕ
 freed_places r n =
-    map (λ slice. slice.place) (filter (λ slice. not (is_of_other n slice)) r.out)
+    map (λ run. run.place) (filter (λ run. not (is_of_other n run)) r.out)
 
 abbrev pub forgets_picture : Reception → StandingSession → Releasable → Option Planes → Reception
 forgets_picture r st picture planes = record r {

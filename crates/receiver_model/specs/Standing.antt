@@ -24,7 +24,7 @@ use Rattle.vc_types.specs.Planes.{Planes}
 use Rattle.vc_types.specs.SequenceHeader.{Sequence}
 use Rattle.vc_types.specs.Subbands.{slice_count}
 use Rattle.receiver_model.specs.Receptions.{StandingSession, Reception, FirstField, PictureAnswers}
-use Rattle.receiver_model.specs.Receptions.{answers_at, kept_answer, SliceOut}
+use Rattle.receiver_model.specs.Receptions.{answers_at, kept_answer, RunOut}
 use Rattle.receiver_model.specs.Releasing.{fields_alone, field_behind}
 
 -- ---- the session that stands
@@ -166,9 +166,9 @@ abbrev pub AreDecodings : List Answered → Type 0
 AreDecodings [] = Unit {0}
 AreDecodings (done ∷ rest) = (done.answer ≡ decoding done.job) × AreDecodings rest
 
--- the slices that are out but those of these pictures
-abbrev pub out_without : List ℕ → List SliceOut → List SliceOut
-out_without released out = filter (λ slice. not (is_among released slice.number)) out
+-- the runs that are out but those of these pictures
+abbrev pub out_without : List ℕ → List RunOut → List RunOut
+out_without released out = filter (λ run. not (is_among released run.number)) out
 
 -- ---- a feeder
 

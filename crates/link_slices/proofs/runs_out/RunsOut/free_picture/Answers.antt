@@ -3,7 +3,7 @@ use Rattle.std.proofs.lemmas.Fn.{filter_same}
 use Rattle.std.specs.Prelude.{filter}
 use Rattle.receiver_model.specs.Releasing.{is_of_other}
 use Rattle.link_slices.proofs.OutSlices.{below_filter}
-use Rattle.link_slices.proofs.slices_out.SlicesOut.free_picture.Goals as goal
+use Rattle.link_slices.proofs.runs_out.RunsOut.free_picture.Goals as goal
 
 pub returns-clause-out : goal.returns-clause-out
 returns-clause-out g c =
@@ -13,5 +13,5 @@ returns-clause-out g c =
 pub returns-clause-below : goal.returns-clause-below
 returns-clause-below g c =
     let left = filter_same _ (is_of_other c.args.number) _ (λ x b f k. search rules) _ _ c.retain.ensures.filtered in
-    rw (left, c.self.view_is, c.free_slices.ensures.bound) (below_filter (g.P.Places.bound c.args.places.now) (is_of_other c.args.number)
+    rw (left, c.self.view_is, c.free_runs.ensures.bound) (below_filter (g.P.Places.bound c.args.places.now) (is_of_other c.args.number)
     c.args.self.now c.requires.below)

@@ -2,7 +2,7 @@ use Rattle.std.proofs.Common.{rules, ap, ◌∙◌}
 use Rattle.std.proofs.lemmas.Fn.{filter_same}
 use Rattle.std.specs.Prelude.{filter}
 use Rattle.receiver_model.specs.Exchanging.{not_at}
-use Rattle.link_slices.proofs.slices_out.SlicesOut.forget.Goals as goal
+use Rattle.link_slices.proofs.runs_out.RunsOut.forget.Goals as goal
 
 pub returns : goal.returns
 returns c =

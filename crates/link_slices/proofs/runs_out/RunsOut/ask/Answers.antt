@@ -1,5 +1,5 @@
 use Rattle.link_slices.proofs.OutSlices.{below_filter}
-use Rattle.link_slices.proofs.slices_out.SlicesOut.ask.Goals as goal
+use Rattle.link_slices.proofs.runs_out.RunsOut.ask.Goals as goal
 
 pub returns-clause-below : goal.returns-clause-below
 returns-clause-below g c =
