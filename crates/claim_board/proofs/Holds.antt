@@ -2,10 +2,12 @@
 use Rattle.std.proofs.Common.{◌≡◌, refl, ℕ, ◌+◌, ◌/◌, ◌<◌, ◌≤◌, cond, List, ◌∷◌, ◌++◌, length, sym, ap, ◌∙◌, subst, arith, eqb, eq-eqb, ne_eqb, append_assoc, Some}
 use mathlib.Core.Logic.{dite}
 use native.Mathlib.Decide.{ℕ_discrete}
-use Rattle.vc_slice.specs.declared.done.SliceDone.{SliceDone}
-use Rattle.vc_slice.specs.declared.job.SliceJob.{SliceJob}
-use Rattle.link_slices.specs.Jobs.{job_of}
-use Rattle.machine_model.specs.Places.{Content, Nothing, Offered, Claimed, Decoded, JobPlace, place_at, state_number, state_of}
+use Rattle.vc_slice.specs.declared.run.RunDone.{RunDone}
+use Rattle.vc_slice.specs.declared.run.RunJob.{RunJob}
+use Rattle.vc_slice.specs.declared.run.RunLoad.{RunLoad}
+use Rattle.link_slices.specs.Jobs.{jobs_of_run}
+use Rattle.machine_model.specs.Places.{state_number}
+use Rattle.claim_board.specs.RunPlaces.{Content, Nothing, Offered, Claimed, Decoded, RunPlace, place_at, state_of}
 use Rattle.claim_board.specs.Counts.{held_count, occurrences}
 use Rattle.claim_board.specs.History.{entry_of, word_of, places_after, IsHistory, Continues, IsOtherOrRead}
 use Rattle.claim_board.specs.Views.{SeatView, DidOnce, DidAtLast, Holds, content_at}
@@ -44,16 +46,16 @@ reads_then p word u v w d a b =
       view = h.view;
     }) b
 
-abbrev job_in : SliceJob → List (ℕ × Slot) → SliceJob
-job_in other ((p, Some (Waiting t job)) ∷ r) = job
-job_in other r = other
+abbrev load_in : RunLoad → List (ℕ × Slot) → RunLoad
+load_in other ((p, Some (Waiting t load)) ∷ r) = load
+load_in other r = other
 
--- a claim after a word was read, whose job the slot has
-pub claims_then : (p word t : ℕ) (job own : SliceJob) (u v w x : SeatView) (r slots : List (ℕ × Slot)) → DidAtLast p u v (WasRead p word) → DidOnce v w (WasClaimed p t own)
-    → slots ≡ (p, Some (Waiting t own)) ∷ r → slots ≡ (p, Some (Waiting t job)) ∷ rest slots → x ≡ w → DidAtLast p u x (WasClaimed p t job)
-claims_then p word t job own u v w x r slots a b mine its same =
-    let e : own ≡ job = ap (job_in own) (sym mine ∙ its) in
-    subst (λ (y : SeatView). DidAtLast p u y (WasClaimed p t job)) (sym same) (subst (λ (j : SliceJob). DidAtLast p u w (WasClaimed p t j)) e (reads_then p word u v w (WasClaimed p t own) a b))
+-- a claim after a word was read, whose run the slot has
+pub claims_then : (p word t : ℕ) (load own : RunLoad) (u v w x : SeatView) (r slots : List (ℕ × Slot)) → DidAtLast p u v (WasRead p word) → DidOnce v w (WasClaimed p t own.job)
+    → slots ≡ (p, Some (Waiting t own)) ∷ r → slots ≡ (p, Some (Waiting t load)) ∷ rest slots → x ≡ w → DidAtLast p u x (WasClaimed p t load.job)
+claims_then p word t load own u v w x r slots a b mine its same =
+    let e : own ≡ load = ap (load_in own) (sym mine ∙ its) in
+    subst (λ (y : SeatView). DidAtLast p u y (WasClaimed p t load.job)) (sym same) (subst (λ (l : RunLoad). DidAtLast p u w (WasClaimed p t l.job)) e (reads_then p word u v w (WasClaimed p t own.job) a b))
 
 -- what the seat read last stands there in its view
 pub read_last : (p word : ℕ) (v w : SeatView) → DidAtLast p v w (WasRead p word) → word_of (place_at (places_after w.places w.history) p) ≡ word
@@ -72,7 +74,7 @@ no_earlier p tried found v w was a =
     small (Claimed w j) = omega arith
     small (Decoded d) = omega arith
 
-    serials : (x y : JobPlace) → word_of x ≡ tried → found ≡ word_of y → x.serial ≤ y.serial → tried / 4 ≤ found / 4
+    serials : (x y : RunPlace) → word_of x ≡ tried → found ≡ word_of y → x.serial ≤ y.serial → tried / 4 ≤ found / 4
     serials x y a b up = let k = small x.content in let l = small y.content in omega arith
 
 -- ---- what is held
@@ -89,38 +91,38 @@ pub held_read : (p word : ℕ) (v w : SeatView) (q : ℕ) → DidAtLast p v w (W
 held_read p word v w q a = subst (λ (x : SeatView). held_count x.number (content_at x q) ≡ held_count v.number (content_at v q)) (sym a.view) (upon p v a.log q a.since a.run.1)
 
 -- a claim: the place wasn't held, and now is
-pub claimed_holds : (p t : ℕ) (job : SliceJob) (v w : SeatView) → DidAtLast p v w (WasClaimed p t job) → Holds w p t job
+pub claimed_holds : (p t : ℕ) (job : RunJob) (v w : SeatView) → DidAtLast p v w (WasClaimed p t job) → Holds w p t job
 claimed_holds p t job v w a =
     let ps = places_after v.places a.log in
-    let one : number_at ps p ≡ 1 = ap (λ (x : JobPlace). state_number (state_of x.content)) a.run.0 in
-    subst (λ (x : SeatView). Holds x p t job) (sym a.view) (claim_here ps p t v.number (job_of job) (within ps p (omega arith)) a.run.0)
+    let one : number_at ps p ≡ 1 = ap (λ (x : RunPlace). state_number (state_of x.content)) a.run.0 in
+    subst (λ (x : SeatView). Holds x p t job) (sym a.view) (claim_here ps p t v.number (jobs_of_run job) (within ps p (omega arith)) a.run.0)
 
-pub not_held_yet : (p t : ℕ) (job : SliceJob) (v w : SeatView) → DidAtLast p v w (WasClaimed p t job) → held_count v.number (content_at v p) ≡ 0
-not_held_yet p t job v w a = sym (upon p v a.log p a.since a.run.1) ∙ ap (λ (x : JobPlace). held_count v.number x.content) a.run.0
+pub not_held_yet : (p t : ℕ) (job : RunJob) (v w : SeatView) → DidAtLast p v w (WasClaimed p t job) → held_count v.number (content_at v p) ≡ 0
+not_held_yet p t job v w a = sym (upon p v a.log p a.since a.run.1) ∙ ap (λ (x : RunPlace). held_count v.number x.content) a.run.0
 
-pub held_claimed : (p t : ℕ) (job : SliceJob) (v w : SeatView) (q : ℕ) (xs : List ℕ) → DidAtLast p v w (WasClaimed p t job) → ((k : ℕ) → occurrences k xs ≡ held_count v.number (content_at v k))
+pub held_claimed : (p t : ℕ) (job : RunJob) (v w : SeatView) (q : ℕ) (xs : List ℕ) → DidAtLast p v w (WasClaimed p t job) → ((k : ℕ) → occurrences k xs ≡ held_count v.number (content_at v k))
     → occurrences q (p ∷ xs) ≡ held_count w.number (content_at w q)
 held_claimed p t job v w q xs a same = rw (occurrences-cons q p xs) (dite (ℕ_discrete p q)
-    (λ e. let mine : held_count w.number (content_at w p) ≡ 1 = ap (λ (x : JobPlace). held_count w.number x.content) (claimed_holds p t job v w a) ∙ (rw (eq-eqb w.number w.number refl) refl) in
+    (λ e. let mine : held_count w.number (content_at w p) ≡ 1 = ap (λ (x : RunPlace). held_count w.number x.content) (claimed_holds p t job v w a) ∙ (rw (eq-eqb w.number w.number refl) refl) in
     let none : occurrences p xs ≡ 0 = same p ∙ not_held_yet p t job v w a in
     subst (λ (k : ℕ). cond (eqb p k) 1 0 + occurrences k xs ≡ held_count w.number (content_at w k)) e (rw (eq-eqb p p refl, none) (sym mine)))
     (λ ne. let chain = same q ∙ (sym (upon p v a.log q a.since a.run.1)
-    ∙ (sym (ap (λ (x : JobPlace). held_count v.number x.content) (elsewhere (places_after v.places a.log) v.number (WasClaimed p t job) q (λ e. ne (sym e))))
+    ∙ (sym (ap (λ (x : RunPlace). held_count v.number x.content) (elsewhere (places_after v.places a.log) v.number (WasClaimed p t job) q (λ e. ne (sym e))))
     ∙ subst (λ (x : SeatView). held_count v.number (place_at (places_after v.places (entry_of v.number (WasClaimed p t job) ∷ a.log)) q).content ≡ held_count x.number (content_at x q)) (sym a.view) refl)) in rw (ne_eqb p q ne) (omega arith)))
 
 -- a completion: the place is held no more
-pub held_completed : (p t : ℕ) (done : SliceDone) (v w : SeatView) (q : ℕ) (xs ys : List ℕ) → DidOnce v w (WasCompleted p t done) → occurrences q xs ≡ cond (eqb p q) 1 0 + occurrences q ys
+pub held_completed : (p t : ℕ) (done : RunDone) (v w : SeatView) (q : ℕ) (xs ys : List ℕ) → DidOnce v w (WasCompleted p t done) → occurrences q xs ≡ cond (eqb p q) 1 0 + occurrences q ys
     → ((k : ℕ) → occurrences k xs ≡ held_count v.number (content_at v k)) → occurrences q ys ≡ held_count w.number (content_at w q)
 held_completed p t done v w q xs ys b less same =
     let a = at_last p v w (WasCompleted p t done) b in
     let ps = places_after v.places a.log in
-    let two : number_at ps p ≡ 2 = ap (λ (x : JobPlace). state_number (state_of x.content)) a.run.0 in
+    let two : number_at ps p ≡ 2 = ap (λ (x : RunPlace). state_number (state_of x.content)) a.run.0 in
     let now : held_count v.number (place_at (places_after v.places (entry_of v.number (WasCompleted p t done) ∷ a.log)) q).content ≡ held_count w.number (content_at w q) =
     subst (λ (x : SeatView). held_count v.number (place_at (places_after v.places (entry_of v.number (WasCompleted p t done) ∷ a.log)) q).content ≡ held_count x.number (content_at x q)) (sym a.view) refl in
     dite (ℕ_discrete p q)
-    (λ e. let here = complete_here ps p t v.number (job_of done.job) (within ps p (omega arith)) a.run.0 in
+    (λ e. let here = complete_here ps p t v.number (jobs_of_run done.job) (within ps p (omega arith)) a.run.0 in
     let none : held_count v.number (place_at (places_after v.places (entry_of v.number (WasCompleted p t done) ∷ a.log)) q).content ≡ 0 =
-    subst (λ (k : ℕ). held_count v.number (place_at (places_after v.places (entry_of v.number (WasCompleted p t done) ∷ a.log)) k).content ≡ 0) e (ap (λ (x : JobPlace). held_count v.number x.content) here) in
+    subst (λ (k : ℕ). held_count v.number (place_at (places_after v.places (entry_of v.number (WasCompleted p t done) ∷ a.log)) k).content ≡ 0) e (ap (λ (x : RunPlace). held_count v.number x.content) here) in
     let most = held_once v.number (content_at v q) in
     let all = same q in
     let one : cond {A = ℕ} (eqb p q) 1 0 ≡ 1 = (rw (eq-eqb p q e) refl) in
@@ -129,7 +131,7 @@ held_completed p t done v w q xs ys b less same =
     (λ ne. let none : cond {A = ℕ} (eqb p q) 1 0 ≡ 0 = (rw (ne_eqb p q ne) refl) in
     let rest : occurrences q ys ≡ occurrences q xs = omega arith in
     rest ∙ (same q ∙ (sym (upon p v a.log q a.since a.run.1)
-    ∙ (sym (ap (λ (x : JobPlace). held_count v.number x.content) (elsewhere ps v.number (WasCompleted p t done) q (λ e. ne (sym e)))) ∙ now))))
+    ∙ (sym (ap (λ (x : RunPlace). held_count v.number x.content) (elsewhere ps v.number (WasCompleted p t done) q (λ e. ne (sym e)))) ∙ now))))
 
 -- ---- the slots of a worker
 
@@ -150,7 +152,7 @@ pub below_less : (p q : ℕ) (old new : List ℕ) → occurrences q old ≡ cond
 below_less p q old new e h = omega arith
 
 -- the slot of a place that is held is with the seat
-pub held_slot : (p t : ℕ) (job : SliceJob) (v : SeatView) (xs : List ℕ) → Holds v p t job → occurrences p xs ≡ held_count v.number (content_at v p) → 0 < occurrences p xs
+pub held_slot : (p t : ℕ) (job : RunJob) (v : SeatView) (xs : List ℕ) → Holds v p t job → occurrences p xs ≡ held_count v.number (content_at v p) → 0 < occurrences p xs
 held_slot p t job v xs holds same =
-    let mine : held_count v.number (content_at v p) ≡ 1 = ap (λ (x : JobPlace). held_count v.number x.content) holds ∙ (rw (eq-eqb v.number v.number refl) refl) in
+    let mine : held_count v.number (content_at v p) ≡ 1 = ap (λ (x : RunPlace). held_count v.number x.content) holds ∙ (rw (eq-eqb v.number v.number refl) refl) in
     omega arith

@@ -54,10 +54,19 @@ lane_after : (v w : SeatView) (p q : ℕ) (new : Lane) (P : Lane → Type 0) →
 lane_after v w p q new P e h here there = grind (arith, get_or-set_same, get_or-set_other)
 
 -- another place may take a job as before
-pub still_taken : (v w : SeatView) (p q : ℕ) → w.lanes ≡ lanes_back v.lanes p → q ≢ p → may_take_a_job w q ≡ may_take_a_job v q
-still_taken v w p q e ne =
+pub still_taken : (v w : SeatView) (p q : ℕ) (new : Lane) → w.lanes ≡ set v.lanes p new → q ≢ p → may_take_a_job w q ≡ may_take_a_job v q
+still_taken v w p q new e ne =
     let may_take : Lane → Bool = λ l. not l.is_out && nat_lt l.serial (2 ^ 61) in
-    ap (λ (ls : List Lane). may_take (lane_in ls q)) e ∙ ap may_take (get_or-set_other v.lanes p q (lane (lane_at v p).serial true false) (lane 0 false false) ne)
+    ap (λ (ls : List Lane). may_take (lane_in ls q)) e ∙ ap may_take (get_or-set_other v.lanes p q new (lane 0 false false) ne)
+
+-- behind a put into the first place that was free, that one is taken too
+pub taken_by_put : (v w : SeatView) (p t q : ℕ) → w.lanes ≡ lanes_put v.lanes p → lane_at w p ≡ lane t true true
+    → ((k : ℕ) → k < p → may_take_a_job v k ≡ false) → q < p + 1 → may_take_a_job w q ≡ false
+taken_by_put v w p t q e out before below =
+    let may_take : Lane → Bool = λ l. not l.is_out && nat_lt l.serial (2 ^ 61) in
+    dite (ℕ_discrete q p)
+    (λ same. ap (may_take_a_job w) same ∙ ap may_take out)
+    (λ ne. still_taken v w p q _ e ne ∙ before q (omega arith))
 
 lane_here : (v : SeatView) (p : ℕ) (new : Lane) (w : SeatView) → w.lanes ≡ set v.lanes p new → p < length v.lanes → lane_at w p ≡ new
 lane_here v p new w e h = ap (λ (ls : List Lane). get_or ls p (lane 0 false false)) e ∙ get_or-set_same v.lanes p new (lane 0 false false) h

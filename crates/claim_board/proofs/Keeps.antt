@@ -6,12 +6,12 @@ use mathlib.Core.Option as maybe
 use native.Mathlib.Decide.{ℕ_discrete}
 use lib.ListN.{get_elem?}
 use Rattle.atomic_table.proofs.Lists.{at_set, set_here, set_else}
-use Rattle.vc_slice.specs.declared.job.SliceJob.{SliceJob}
-use Rattle.vc_slice.specs.declared.done.SliceDone.{SliceDone}
-use Rattle.link_slices.specs.Jobs.{answered, job_of}
+use Rattle.vc_slice.specs.declared.run.RunLoad.{RunLoad}
+use Rattle.vc_slice.specs.declared.run.RunDone.{RunDone}
+use Rattle.link_slices.specs.Jobs.{answered_run, jobs_of_run}
 use Rattle.claim_board.specs.Views.{lane, SeatView, lane_at, did, DidOnce}
 use Rattle.claim_board.specs.declared.view.Lane.{Lane}
-use Rattle.machine_model.specs.Places.{Content, Nothing, Offered, Decoded, JobPlace, place_at}
+use Rattle.claim_board.specs.RunPlaces.{Content, Nothing, Offered, Decoded, RunPlace, place_at}
 use Rattle.claim_board.specs.declared.cargo.Cargo.TheVariants.{Waiting, Finished}
 use Rattle.claim_board.specs.declared.view.Entry.{Entry}
 use Rattle.claim_board.specs.declared.view.Deed.{Deed}
@@ -148,14 +148,14 @@ has_done s o id v d me may = let k = o.known id v me in record {
 
 -- ---- what a word says of its place
 
-pub record IsOffered (t : ℕ) (home : maybe.Option (maybe.Option Slot)) (known : Lane) (p : JobPlace) : Type 0 where
-  pub own : SliceJob
-  pub stands : p ≡ standing t (Offered (job_of own))
+pub record IsOffered (t : ℕ) (home : maybe.Option (maybe.Option Slot)) (known : Lane) (p : RunPlace) : Type 0 where
+  pub own : RunLoad
+  pub stands : p ≡ standing t (Offered (jobs_of_run own.job))
   pub lies : home ≡ some (some (Some (Waiting t own)))
   pub is_known : known ≡ lane t true true
   pub small : t ≤ 2 ^ 61
 
-pub offered : (w t : ℕ) (home : maybe.Option (maybe.Option Slot)) (known : Lane) (p : JobPlace) → ShowsPlace w home known p → w ≡ 4 * t + 1 → IsOffered t home known p
+pub offered : (w t : ℕ) (home : maybe.Option (maybe.Option Slot)) (known : Lane) (p : RunPlace) → ShowsPlace w home known p → w ≡ 4 * t + 1 → IsOffered t home known p
 offered w t home known p at is = cases p.serial p.content at.is_fetched at.shows at.small at.is_known at.lies
   where
     cases : (serial : ℕ) (c : Content) (fetched : Bool) → w ≡ word_of (standing serial c) → serial ≤ 2 ^ 61 → known ≡ lane serial fetched (is_out c) → Lies home fetched serial c
@@ -171,14 +171,14 @@ offered w t home known p at is = cases p.serial p.content at.is_fetched at.shows
     cases serial (Offered job) false e small k l = absurd l
     cases serial c fetched e small k l = absurd (omega arith)
 
-pub record IsDecoded (t : ℕ) (home : maybe.Option (maybe.Option Slot)) (known : Lane) (p : JobPlace) : Type 0 where
-  pub own : SliceDone
-  pub stands : p ≡ standing t (Decoded (answered own))
+pub record IsDecoded (t : ℕ) (home : maybe.Option (maybe.Option Slot)) (known : Lane) (p : RunPlace) : Type 0 where
+  pub own : RunDone
+  pub stands : p ≡ standing t (Decoded (answered_run own))
   pub lies : home ≡ some (some (Some (Finished t own)))
   pub is_known : known ≡ lane t true true
   pub small : t ≤ 2 ^ 61
 
-pub decoded : (w t : ℕ) (home : maybe.Option (maybe.Option Slot)) (known : Lane) (p : JobPlace) → ShowsPlace w home known p → w ≡ 4 * t + 3 → IsDecoded t home known p
+pub decoded : (w t : ℕ) (home : maybe.Option (maybe.Option Slot)) (known : Lane) (p : RunPlace) → ShowsPlace w home known p → w ≡ 4 * t + 3 → IsDecoded t home known p
 decoded w t home known p at is = cases p.serial p.content at.is_fetched at.shows at.small at.is_known at.lies
   where
     cases : (serial : ℕ) (c : Content) (fetched : Bool) → w ≡ word_of (standing serial c) → serial ≤ 2 ^ 61 → known ≡ lane serial fetched (is_out c) → Lies home fetched serial c
@@ -195,13 +195,13 @@ decoded w t home known p at is = cases p.serial p.content at.is_fetched at.shows
     cases serial c fetched e small k l = absurd (omega arith)
 
 -- what the feeder's lane says of its place
-pub record IsIdle (t : ℕ) (fetched : Bool) (w : ℕ) (home : maybe.Option (maybe.Option Slot)) (p : JobPlace) : Type 0 where
+pub record IsIdle (t : ℕ) (fetched : Bool) (w : ℕ) (home : maybe.Option (maybe.Option Slot)) (p : RunPlace) : Type 0 where
   pub stands : p ≡ standing t Nothing
   pub shows : w ≡ 4 * t
   pub small : t ≤ 2 ^ 61
   pub lies : Lies home fetched t Nothing
 
-pub idle : (w t : ℕ) (f : Bool) (home : maybe.Option (maybe.Option Slot)) (known : Lane) (p : JobPlace) → ShowsPlace w home known p → known ≡ lane t f false → IsIdle t f w home p
+pub idle : (w t : ℕ) (f : Bool) (home : maybe.Option (maybe.Option Slot)) (known : Lane) (p : RunPlace) → ShowsPlace w home known p → known ≡ lane t f false → IsIdle t f w home p
 idle w t f home known p at is = cases p.serial p.content at.is_fetched at.shows at.small at.is_known at.lies
   where
     cases : (serial : ℕ) (c : Content) (fetched : Bool) → w ≡ word_of (standing serial c) → serial ≤ 2 ^ 61 → known ≡ lane serial fetched (is_out c) → Lies home fetched serial c

@@ -4,8 +4,9 @@ use Rattle.std.proofs.lemmas.Bool.{and_parts, eqb-true, ltb-true, false≢true}
 use Rattle.std.proofs.lemmas.List.Sums.{sum_by-cons}
 use mathlib.Core.Logic.{dite}
 use native.Mathlib.Decide.{ℕ_discrete}
-use Rattle.link_slices.specs.Jobs.{job_of}
-use Rattle.machine_model.specs.Places.{Content, Nothing, Offered, Claimed, Decoded, JobPlace, place_at, is_free, state_number, state_of}
+use Rattle.link_slices.specs.Jobs.{jobs_of_run}
+use Rattle.machine_model.specs.Places.{state_number}
+use Rattle.claim_board.specs.RunPlaces.{Content, Nothing, Offered, Claimed, Decoded, RunPlace, place_at, is_free, state_of}
 use Rattle.claim_board.specs.declared.view.Entry.{Entry}
 use Rattle.claim_board.specs.declared.view.Deed.{Deed}
 use Rattle.claim_board.specs.declared.view.Deed.TheVariants.{WasPut, WasClaimed, WasCompleted, WasTaken, WasWithdrawn}
@@ -20,38 +21,38 @@ stage (Claimed seat job) = 2
 stage (Decoded done) = 3
 stage Nothing = 4
 
-abbrev progress : JobPlace → ℕ
+abbrev progress : RunPlace → ℕ
 progress p = 4 * p.serial + stage p.content
 
 stage_empty : (c : Content) → state_number (state_of c) ≡ 0 → stage c ≡ 4
 stage_empty Nothing e = refl
 stage_empty c e = absurd (omega arith)
 
-up_here : (ps : List JobPlace) (seat : ℕ) (d : Deed) → MayDo ps seat d → progress (place_at ps (deed_place d)) ≤ progress (place_at (after_deed ps seat d) (deed_place d))
+up_here : (ps : List RunPlace) (seat : ℕ) (d : Deed) → MayDo ps seat d → progress (place_at ps (deed_place d)) ≤ progress (place_at (after_deed ps seat d) (deed_place d))
 up_here ps seat (WasPut p job) may =
     let h = ltb-true p (length ps) (and_parts (ltb p (length ps)) (is_free (place_at ps p)) may).0 in
     let was = stage_empty (place_at ps p).content (empty_of_put ps p may) in
-    let now = ap progress (put_here ps p (place_at ps p).serial (place_at ps p).content (job_of job) h refl) in
+    let now = ap progress (put_here ps p (place_at ps p).serial (place_at ps p).content (jobs_of_run job) h refl) in
     omega arith
-up_here ps seat (WasClaimed p t job) may = omega (arith, ap progress may, ap progress (claim_here ps p t seat (job_of job) (there ps p t _ may (omega arith)) may))
-up_here ps seat (WasCompleted p t done) may = omega (arith, ap progress may, ap progress (complete_here ps p t seat (job_of done.job) (there ps p t _ may (omega arith)) may))
+up_here ps seat (WasClaimed p t job) may = omega (arith, ap progress may, ap progress (claim_here ps p t seat (jobs_of_run job) (there ps p t _ may (omega arith)) may))
+up_here ps seat (WasCompleted p t done) may = omega (arith, ap progress may, ap progress (complete_here ps p t seat (jobs_of_run done.job) (there ps p t _ may (omega arith)) may))
 up_here ps seat (WasTaken p t done) may = omega (arith, ap progress may, ap progress (free_here ps p t _ (there ps p t _ may (omega arith)) may))
 up_here ps seat (WasWithdrawn p t job) may = omega (arith, ap progress may, ap progress (free_here ps p t _ (there ps p t _ may (omega arith)) may))
 up_here ps seat d may = omega arith
 
-up_deed : (ps : List JobPlace) (seat : ℕ) (d : Deed) (q : ℕ) → MayDo ps seat d → progress (place_at ps q) ≤ progress (place_at (after_deed ps seat d) q)
+up_deed : (ps : List RunPlace) (seat : ℕ) (d : Deed) (q : ℕ) → MayDo ps seat d → progress (place_at ps q) ≤ progress (place_at (after_deed ps seat d) q)
 up_deed ps seat d q may = dite (ℕ_discrete q (deed_place d))
     (λ e. subst (λ (k : ℕ). progress (place_at ps k) ≤ progress (place_at (after_deed ps seat d) k)) (sym e) (up_here ps seat d may))
     (λ ne. let same = ap progress (elsewhere ps seat d q ne) in omega arith)
 
 -- a claim of this round is the step from waiting to held
-claim_step : (ps : List JobPlace) (seat : ℕ) (d : Deed) (p t : ℕ) → is_claim p t d ≡ true → MayDo ps seat d → (progress (place_at ps p) ≡ 4 * t + 1) × (progress (place_at (after_deed ps seat d) p) ≡ 4 * t + 2)
+claim_step : (ps : List RunPlace) (seat : ℕ) (d : Deed) (p t : ℕ) → is_claim p t d ≡ true → MayDo ps seat d → (progress (place_at ps p) ≡ 4 * t + 1) × (progress (place_at (after_deed ps seat d) p) ≡ 4 * t + 2)
 claim_step ps seat (WasClaimed q u job) p t is may =
     let same = and_parts (eqb q p) (eqb u t) is in
     let e = eqb-true q p same.0 in
     let f = eqb-true u t same.1 in
     let was = ap progress may in
-    let now = ap progress (claim_here ps q u seat (job_of job) (there ps q u _ may (omega arith)) may) in
+    let now = ap progress (claim_here ps q u seat (jobs_of_run job) (there ps q u _ may (omega arith)) may) in
     subst (λ (k : ℕ). (progress (place_at ps k) ≡ 4 * t + 1) × (progress (place_at (after_deed ps seat (WasClaimed q u job)) k) ≡ 4 * t + 2)) e (omega arith, omega arith)
 claim_step ps seat d p t is may = absurd (false≢true is)
 

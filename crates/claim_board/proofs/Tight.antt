@@ -8,9 +8,10 @@ use lib.ListN.{get_elem?}
 use Rattle.atomic_table.proofs.Lists.{set_here, set_else}
 use Rattle.claim_board.specs.declared.view.Entry.{Entry}
 use Rattle.claim_board.specs.declared.view.Deed.{Deed}
-use Rattle.machine_model.specs.Places.{Answered, Content, Decoded, JobPlace, place_at}
-use Rattle.link_slices.specs.Jobs.{answered}
-use Rattle.vc_slice.specs.declared.done.SliceDone.{SliceDone}
+use Rattle.machine_model.specs.Places.{Answered}
+use Rattle.claim_board.specs.RunPlaces.{Content, Decoded, RunPlace, place_at}
+use Rattle.link_slices.specs.Jobs.{answered_run}
+use Rattle.vc_slice.specs.declared.run.RunDone.{RunDone}
 use Rattle.claim_board.specs.declared.cargo.Cargo.TheVariants.{Finished}
 use Rattle.claim_board.specs.declared.view.Deed.TheVariants.{WasTaken}
 use Rattle.claim_board.specs.History.{after_deed, entry_of, places_after, word_of, Each, Continues, IsBelow, IsOther, IsHistory, MayDo}
@@ -144,15 +145,15 @@ module _ (s t : BoardState) (old : BoardRule s) (new : BoardRule t) (seat : ℕ)
   pub leads : (p : ℕ) → p < length t.words → get_or t.words p 0 ≡ word_of (place_at (after_deed (places_after old.places old.history) v.number d) p)
   leads p h = (new.each p h).shows ∙ (ap (λ l. word_of (place_at (places_after new.places l) p)) one_more ∙ ap (λ (k : ℕ). word_of (place_at (places_after k (entry_of v.number d ∷ old.history)) p)) same_places)
 
-abbrev answer_in : Answered → Content → Answered
-answer_in other (Decoded done) = done
-answer_in other content = other
+abbrev answers_in : List Answered → Content → List Answered
+answers_in other (Decoded dones) = dones
+answers_in other content = other
 
 -- what was taken lay there
-pub lay_there : (s t : BoardState) (old : BoardRule s) (new : BoardRule t) (seat : ℕ) (v : SeatView) (p serial : ℕ) (done : SliceDone) → IsStepOf s t seat v (WasTaken p serial done) → p < length s.words
-    → (own : SliceDone) × (get_elem? s.homes p ≡ some (some (Some (Finished serial own)))) × (answered own ≡ answered done)
+pub lay_there : (s t : BoardState) (old : BoardRule s) (new : BoardRule t) (seat : ℕ) (v : SeatView) (p serial : ℕ) (done : RunDone) → IsStepOf s t seat v (WasTaken p serial done) → p < length s.words
+    → (own : RunDone) × (get_elem? s.homes p ≡ some (some (Some (Finished serial own)))) × (answered_run own ≡ answered_run done)
 lay_there s t old new seat v p serial done step h =
     let stands = is_true s t old new seat v (WasTaken p serial done) step in
     let at = old.each p h in
     let found = decoded (get_or s.words p 0) serial (get_elem? s.homes p) (lane_at old.feeder p) (place_at (places_after old.places old.history) p) at (at.shows ∙ ap word_of stands) in
-    (found.own, found.lies, ap (λ (x : JobPlace). answer_in (answered done) x.content) (sym found.stands ∙ stands))
+    (found.own, found.lies, ap (λ (x : RunPlace). answers_in (answered_run done) x.content) (sym found.stands ∙ stands))

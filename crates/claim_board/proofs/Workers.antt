@@ -6,12 +6,14 @@ use lib.ListN.{get_elem?}
 use prog.Atomic.{either}
 use Rattle.atomic_table.specs.Table.{step, Act, keeps, takes, gives, Valid, carried_after, stepped, Allows, opening, Splits}
 use Rattle.atomic_table.proofs.Lists.{set_here, set_else, exchanged, at_longer, at_set}
-use Rattle.vc_slice.specs.declared.job.SliceJob.{SliceJob}
-use Rattle.vc_slice.specs.declared.done.SliceDone.{SliceDone}
-use Rattle.link_slices.specs.Jobs.{answered, job_of}
+use Rattle.vc_slice.specs.declared.run.RunJob.{RunJob}
+use Rattle.vc_slice.specs.declared.run.RunDone.{RunDone}
+use Rattle.link_slices.specs.Jobs.{answered_run, jobs_of_run}
+use Rattle.link_slices.proofs.RunAnswers.{answers_are_own}
 use Rattle.claim_board.specs.Views.{lane, SeatView, DidOnce, did, Holds, lane_at, first_view, with_seat, worker_view}
 use Rattle.claim_board.specs.declared.view.Lane.{Lane}
-use Rattle.machine_model.specs.Places.{Claimed, Decoded, JobPlace, place_at, own_answer, unused_place}
+use Rattle.machine_model.specs.Places.{own_answer}
+use Rattle.claim_board.specs.RunPlaces.{Claimed, Decoded, RunPlace, place_at, unused_place}
 use Rattle.claim_board.specs.declared.cargo.Cargo.TheVariants.{Waiting, Finished}
 use Rattle.claim_board.specs.declared.view.Entry.{Entry}
 use Rattle.claim_board.specs.declared.view.Deed.TheVariants.{WasRead, WasClaimed, WasCompleted}
@@ -44,18 +46,18 @@ claims n id m i t said h s o wide me fits =
     let in_words : i < length s.words = (let e = o.wide in omega arith) in
     let long = places_long s o in
     let old = o.each i in_words in
-    let ps : List JobPlace = places_after o.places o.history in
+    let ps : List RunPlace = places_after o.places o.history in
     let G : ℕ → Type 0 = λ k. (w : SeatView) × (a : Act Slot) × Valid s.homes m.1 a × BoardRule (stepped s i k id m.1 w a) × tells_claim (step n i (4 * t + 1) (4 * t + 2) said) m (get_or s.words i 0) (w, carried_after m.1 a) in
     exchanged (get_or s.words i 0) (4 * t + 1) (4 * t + 2) G
     (λ hit.
     let is = offered (get_or s.words i 0) t (get_elem? s.homes i) (lane_at o.feeder i) (place_at ps i) old hit in
-    let w : SeatView = did m.0 o.history (WasClaimed i t is.own) in
+    let w : SeatView = did m.0 o.history (WasClaimed i t is.own.job) in
     let f = quiet s o id i m.0 w me refl refl in
-    let now = claim_here ps i t m.0.number (job_of is.own) (omega arith) is.stands in (
+    let now = claim_here ps i t m.0.number (jobs_of_run is.own.job) (omega arith) is.stands in (
       w,
       takes i (Some (Waiting t is.own)),
       is.lies,
-      goes s o id m.0 (4 * t + 2) (set s.homes i none) (WasClaimed i t is.own) me in_words is.stands (length-set s.homes i none) (λ q ne. set_else s.homes i q none ne) f.0
+      goes s o id m.0 (4 * t + 2) (set s.homes i none) (WasClaimed i t is.own.job) me in_words is.stands (length-set s.homes i none) (λ q ne. set_else s.homes i q none ne) f.0
           (subst (ShowsPlace (4 * t + 2) (get_elem? (set s.homes i none) i) (lane_at f.0.feeder i)) (sym now)
           (record {
             shows = refl;
@@ -66,9 +68,9 @@ claims n id m i t said h s o wide me fits =
           })),
       (
         (λ r u e. let same : t ≡ u = omega arith in record {
-          job = is.own;
+          load = is.own;
           did = (
-            subst (λ (k : ℕ). DidOnce m.0 w (WasClaimed i k is.own)) same (has_done s o id m.0 (WasClaimed i t is.own) me is.stands),
+            subst (λ (k : ℕ). DidOnce m.0 w (WasClaimed i k is.own.job)) same (has_done s o id m.0 (WasClaimed i t is.own.job) me is.stands),
             ap (λ (k : ℕ). (i, Some (Waiting k is.own)) ∷ m.1) same,
           );
           small = let k = is.small in omega arith;
@@ -94,39 +96,39 @@ claims_at n id m i old new t said h a b =
 -- ---- a completion
 
 -- what the seat holds by its own view it holds now
-pub held_now : (s : BoardState) (o : BoardRule s) (id : ℕ) (v : SeatView) (i t : ℕ) (job : SliceJob) → get_elem? s.views id ≡ some v → Holds v i t job
-    → place_at (places_after o.places o.history) i ≡ standing t (Claimed v.number (job_of job))
+pub held_now : (s : BoardState) (o : BoardRule s) (id : ℕ) (v : SeatView) (i t : ℕ) (job : RunJob) → get_elem? s.views id ≡ some v → Holds v i t job
+    → place_at (places_after o.places o.history) i ≡ standing t (Claimed v.number (jobs_of_run job))
 held_now s o id v i t job me holds =
     let k = o.known id v me in
-    let then : place_at (places_after o.places v.history) i ≡ standing t (Claimed id (job_of job)) = rw (sym k.places, sym k.number) holds in
+    let then : place_at (places_after o.places v.history) i ≡ standing t (Claimed id (jobs_of_run job)) = rw (sym k.places, sym k.number) holds in
     let run : IsHistory o.places (k.since.0 ++ v.history) = subst (IsHistory o.places) k.since.1 o.run in
-    ap (λ (l : List Entry). place_at (places_after o.places l) i) k.since.1 ∙ (stays_held o.places id k.since.0 v.history i t (job_of job) run k.since.2 then ∙ ap (λ (j : ℕ). standing t (Claimed j (job_of job))) (sym k.number))
+    ap (λ (l : List Entry). place_at (places_after o.places l) i) k.since.1 ∙ (stays_held o.places id k.since.0 v.history i t (jobs_of_run job) run k.since.2 then ∙ ap (λ (j : ℕ). standing t (Claimed j (jobs_of_run job))) (sym k.number))
 
 -- its slot isn't at home, and the feeder's lane shows it as out
-held_at : (w t seat : ℕ) (job : SliceJob) (home : maybe.Option (maybe.Option Slot)) (known : Lane) (p : JobPlace) → ShowsPlace w home known p → p ≡ standing t (Claimed seat (job_of job)) → (known ≡ lane t true true) × (t ≤ 2 ^ 61)
+held_at : (w t seat : ℕ) (job : RunJob) (home : maybe.Option (maybe.Option Slot)) (known : Lane) (p : RunPlace) → ShowsPlace w home known p → p ≡ standing t (Claimed seat (jobs_of_run job)) → (known ≡ lane t true true) × (t ≤ 2 ^ 61)
 held_at w t seat job home known p at is =
     let q = subst (ShowsPlace w home known) is at in
     cases q.is_fetched q.is_known q.lies q.small
   where
-    cases : (b : Bool) → known ≡ lane t b true → Lies home b t (Claimed seat (job_of job)) → t ≤ 2 ^ 61 → (known ≡ lane t true true) × (t ≤ 2 ^ 61)
+    cases : (b : Bool) → known ≡ lane t b true → Lies home b t (Claimed seat (jobs_of_run job)) → t ≤ 2 ^ 61 → (known ≡ lane t true true) × (t ≤ 2 ^ 61)
     cases true k l small = (k, small)
     cases false k l small = absurd l
 
-pub completes : (n id : ℕ) (v : SeatView) (r : List (ℕ × Slot)) (i t : ℕ) (done : SliceDone) → i < n → Holds v i t done.job
+pub completes : (n id : ℕ) (v : SeatView) (r : List (ℕ × Slot)) (i t : ℕ) (done : RunDone) → i < n → Holds v i t done.job
     → Allows BoardRule n id (v, (i, Some (Finished t done)) ∷ r) i (λ _. 4 * t + 3) (λ _. tells_complete (step n i (4 * t + 3) 0 none) (v, (i, Some (Finished t done)) ∷ r) (4 * t + 3))
 completes n id v r i t done h holds s o wide me fits =
     let in_words : i < length s.words = (let e = o.wide in omega arith) in
     let long = places_long s o in
     let old = o.each i in_words in
-    let ps : List JobPlace = places_after o.places o.history in
+    let ps : List RunPlace = places_after o.places o.history in
     let stands = held_now s o id v i t done.job me holds in
     let was = held_at (get_or s.words i 0) t v.number done.job (get_elem? s.homes i) (lane_at o.feeder i) (place_at ps i) old stands in
     let d = WasCompleted i t done in
     let w : SeatView = did v o.history d in
     let f = quiet s o id i v w me refl refl in
     let home = some (Some (Finished t done)) in
-    let own : own_answer (job_of done.job) ≡ answered done = ap (λ a. record { job = job_of done.job; answer = a }) (sym done.decoded) in
-    let now = complete_here ps i t v.number (job_of done.job) (omega arith) stands ∙ ap (λ a. standing t (Decoded a)) own in (
+    let own : map own_answer (jobs_of_run done.job) ≡ answered_run done = answers_are_own done in
+    let now = complete_here ps i t v.number (jobs_of_run done.job) (omega arith) stands ∙ ap (λ a. standing t (Decoded a)) own in (
       w,
       gives,
       tt,
@@ -142,7 +144,7 @@ completes n id v r i t done h holds s o wide me fits =
       (has_done s o id v d me stands, refl),
     )
 
-pub completes_at : (n id : ℕ) (m : SeatState) (i t : ℕ) (done : SliceDone) (r : List (ℕ × Slot)) → i < n → Holds m.0 i t done.job → m.1 ≡ (i, Some (Finished t done)) ∷ r
+pub completes_at : (n id : ℕ) (m : SeatState) (i t : ℕ) (done : RunDone) (r : List (ℕ × Slot)) → i < n → Holds m.0 i t done.job → m.1 ≡ (i, Some (Finished t done)) ∷ r
     → Allows BoardRule n id m i (λ _. 4 * t + 3) (λ _. tells_complete (step n i (4 * t + 3) 0 none) m (4 * t + 3))
 completes_at n id m i t done r h holds slots =
     let P : List (ℕ × Slot) → Type 0 = λ l. Allows BoardRule n id (m.0, l) i (λ _. 4 * t + 3) (λ _. tells_complete (step n i (4 * t + 3) 0 none) (m.0, l) (4 * t + 3)) in

@@ -8,8 +8,9 @@ use Rattle.claim_board.specs.Seats.{feeder_sees, place_count}
 use Rattle.claim_board.specs.declared.feeder.BoardFeeder.{BoardFeeder}
 use Rattle.claim_board.specs.declared.view.Deed.TheVariants.{WasRead, WasPut, WasTaken}
 use Rattle.claim_board.specs.declared.view.Deed.TheVariants.{WasWithdrawn}
-use Rattle.vc_slice.specs.declared.done.SliceDone.{SliceDone}
-use Rattle.vc_slice.specs.declared.job.SliceJob.{SliceJob}
+use Rattle.vc_slice.specs.declared.run.RunDone.{RunDone}
+use Rattle.vc_slice.specs.declared.run.RunJob.{RunJob}
+use Rattle.vc_slice.specs.declared.run.RunLoad.{RunLoad}
 
 -- the number of places of its board
 abbrev pub feeder_bound : BoardFeeder → ℕ
@@ -44,7 +45,7 @@ pub record FoundNot (state place : ℕ) (old new : SeatView) : Type 0 where
 -- ---- what the calls of places do
 
 -- a take: the place is empty again and marked no more, or its own step read a word that isn't done
-pub record HasAsked (old new : BoardFeeder) (place : ℕ) (answer : Option SliceDone) : Type 0 where
+pub record HasAsked (old new : BoardFeeder) (place : ℕ) (answer : Option RunDone) : Type 0 where
   pub took : IfSome answer (λ done. DidOnce (form_sees old) (form_sees new)
       (WasTaken place (lane_at (form_sees old) place).serial done))
   pub mark : OnSome answer (left_in new ≡ slice_set (left_in old) place false)
@@ -52,10 +53,10 @@ pub record HasAsked (old new : BoardFeeder) (place : ℕ) (answer : Option Slice
   pub stays : IfNone answer (left_in new ≡ left_in old)
 
 -- the same for a withdrawal
-pub record HasAskedBack (old new : BoardFeeder) (place : ℕ) (answer : Option SliceJob)
+pub record HasAskedBack (old new : BoardFeeder) (place : ℕ) (answer : Option RunLoad)
     : Type 0 where
-  pub took : IfSome answer (λ job. DidOnce (form_sees old) (form_sees new)
-      (WasWithdrawn place (lane_at (form_sees old) place).serial job))
+  pub took : IfSome answer (λ load. DidOnce (form_sees old) (form_sees new)
+      (WasWithdrawn place (lane_at (form_sees old) place).serial load.job))
   pub mark : OnSome answer (left_in new ≡ slice_set (left_in old) place false)
   pub not_waiting : IfNone answer (FoundNot 1 place (form_sees old) (form_sees new))
   pub stays : IfNone answer (left_in new ≡ left_in old)
@@ -63,7 +64,7 @@ pub record HasAskedBack (old new : BoardFeeder) (place : ℕ) (answer : Option S
 -- a take where the place was left, and nothing where it wasn't
 pub record HasAskedIfLeft (old new : BoardFeeder) (place : ℕ) : Type 0 where
   pub asked : is_left old place ≡ true
-      → (answer : Option SliceDone) × HasAsked old new place answer
+      → (answer : Option RunDone) × HasAsked old new place answer
   pub same : is_left old place ≡ false → new ≡ old
 
 -- the same for each place below this one, in turn
@@ -73,14 +74,14 @@ HasAskedBelow (suc place) old new =
     (between : BoardFeeder) × HasAskedBelow place old between × HasAskedIfLeft between new place
 
 -- a put: the place was the lowest free one, and has the job
-pub record HasPut (asked new : BoardFeeder) (place : ℕ) (job : SliceJob) : Type 0 where
+pub record HasPut (asked new : BoardFeeder) (place : ℕ) (job : RunJob) : Type 0 where
   pub lowest : IsLowestFree (feeder_bound asked) (form_sees asked) place
   pub put : DidOnce (form_sees asked) (form_sees new) (WasPut place job)
   pub left : left_in new ≡ left_in asked
 
 -- an offer: each place that was left was asked; then the lowest free place has the job, if there is
 -- one
-pub record HasOffered (old new : BoardFeeder) (job : SliceJob) (answer : Result ℕ SliceJob)
+pub record HasOffered (old new : BoardFeeder) (job : RunJob) (answer : Result ℕ RunLoad)
     : Type 0 where
   pub asked : BoardFeeder
   pub sweep : HasAskedBelow (feeder_bound old) old asked

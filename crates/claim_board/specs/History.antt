@@ -1,12 +1,15 @@
--- The history of a board, the last step first, and where it leads the places of the machine.
+-- The history of a board, the last step first, and where it leads its places.
 use Rattle.std.specs.Prelude.{◌≡◌, ◌≢◌, ℕ, ◌+◌, ◌*◌, ◌<◌, true, List, [], ◌∷◌, ◌++◌}
-use Rattle.std.specs.Prelude.{Option, Some, None}
+use Rattle.std.specs.Prelude.{length, map}
+use Rattle.std.specs.List.{range_with_len}
 use Rattle.machine_model.specs.Machine as machine
 use Rattle.machine_model.specs.Machine.{Event}
-use Rattle.machine_model.specs.Places.{Content, Offered, Claimed, Decoded, JobPlace}
-use Rattle.machine_model.specs.Places.{claims_job, completes_job, frees_place, may_put, place_at}
-use Rattle.machine_model.specs.Places.{puts_job, state_number, state_of, unused_places}
-use Rattle.link_slices.specs.Jobs.{answered, job_of}
+use Rattle.machine_model.specs.Places as places
+use Rattle.machine_model.specs.Places.{JobPlace, state_number}
+use Rattle.link_slices.specs.Jobs.{answered_run, jobs_of_run}
+use Rattle.claim_board.specs.RunPlaces.{Content, Offered, Claimed, Decoded, RunPlace, machine_place}
+use Rattle.claim_board.specs.RunPlaces.{claims_run, completes_run, frees_place, may_put, place_at}
+use Rattle.claim_board.specs.RunPlaces.{puts_run, state_of, unused_places}
 use Rattle.claim_board.specs.declared.view.Entry.{Entry}
 use Rattle.claim_board.specs.declared.view.Deed.{Deed}
 use Rattle.claim_board.specs.declared.view.Deed.TheVariants.{WasRead, WasFetched, WasPut, WasClaimed}
@@ -24,62 +27,69 @@ deed_place (WasCompleted place serial done) = place
 deed_place (WasTaken place serial done) = place
 deed_place (WasWithdrawn place serial job) = place
 
--- ---- a deed as the event of its name
+-- ---- a deed as the events of its name
 
--- the event that it is; to read a word is none
-abbrev pub event_of : ℕ → Deed → Option Event
-event_of seat (WasRead place word) = None
-event_of seat (WasFetched place) = None
-event_of seat (WasPut place job) = Some (machine.Put place job.number job.index)
-event_of seat (WasClaimed place serial job) = Some (machine.Claim seat place)
-event_of seat (WasCompleted place serial done) = Some (machine.Complete place serial)
-event_of seat (WasTaken place serial done) = Some (machine.Take place)
-event_of seat (WasWithdrawn place serial job) = Some (machine.Withdraw place)
+-- an event of each slice of a run, at its place of the machine, from slice number k on
+abbrev pub each_slice : (ℕ → Event) → ℕ → ℕ → List Event
+each_slice event place count = map (λ k. event (machine_place place k)) (range_with_len 0 count)
 
--- what it does to the machine's places
-abbrev pub after_deed : List JobPlace → ℕ → Deed → List JobPlace
+-- of each slice the event that it is, upon these places of the machine; to read a word is none
+abbrev pub events_of : List JobPlace → ℕ → Deed → List Event
+events_of ps seat (WasRead place word) = []
+events_of ps seat (WasFetched place) = []
+events_of ps seat (WasPut place run) = map
+    (λ k. machine.Put (machine_place place k) run.number (run.first + k))
+    (range_with_len 0 (length run.slices.items))
+events_of ps seat (WasClaimed place serial run) =
+    each_slice (machine.Claim seat) place (length run.slices.items)
+events_of ps seat (WasCompleted place serial done) =
+    each_slice (λ p. machine.Complete p (places.place_at ps p).serial) place (length done.job.slices.items)
+events_of ps seat (WasTaken place serial done) =
+    each_slice machine.Take place (length done.job.slices.items)
+events_of ps seat (WasWithdrawn place serial run) =
+    each_slice machine.Withdraw place (length run.slices.items)
+
+-- what it does to the board's places
+abbrev pub after_deed : List RunPlace → ℕ → Deed → List RunPlace
 after_deed places seat (WasRead place word) = places
 after_deed places seat (WasFetched place) = places
-after_deed places seat (WasPut place job) = puts_job places place (job_of job)
-after_deed places seat (WasClaimed place serial job) = claims_job places seat place
-after_deed places seat (WasCompleted place serial done) = completes_job places place serial
+after_deed places seat (WasPut place run) = puts_run places place (jobs_of_run run)
+after_deed places seat (WasClaimed place serial job) = claims_run places seat place
+after_deed places seat (WasCompleted place serial done) = completes_run places place serial
 after_deed places seat (WasTaken place serial done) = frees_place places place
 after_deed places seat (WasWithdrawn place serial job) = frees_place places place
 
 -- ---- where a deed may stand
 
-abbrev pub standing : ℕ → Content → JobPlace
+abbrev pub standing : ℕ → Content → RunPlace
 standing serial content = record { serial = serial; content = content }
 
 -- a word is four times the serial of its place, and the number of its state
 abbrev pub waiting_word : ℕ → ℕ
 waiting_word serial = 4 * serial + 1
 
-abbrev pub done_word : ℕ → ℕ
-done_word serial = 4 * serial + 3
-
 -- the word that shows a place
-abbrev pub word_of : JobPlace → ℕ
+abbrev pub word_of : RunPlace → ℕ
 word_of p = 4 * p.serial + state_number (state_of p.content)
 
 -- what it says of the place is so: the word that is there, the round, and the job or the answer
-abbrev pub MayDo : List JobPlace → ℕ → Deed → Type 0
+abbrev pub MayDo : List RunPlace → ℕ → Deed → Type 0
 MayDo places seat (WasRead place word) = word ≡ word_of (place_at places place)
 MayDo places seat (WasFetched place) = Unit {0}
 MayDo places seat (WasPut place job) = may_put places place ≡ true
 MayDo places seat (WasClaimed place serial job) =
-    place_at places place ≡ standing serial (Offered (job_of job))
+    place_at places place ≡ standing serial (Offered (jobs_of_run job))
 MayDo places seat (WasCompleted place serial done) =
-    place_at places place ≡ standing serial (Claimed seat (job_of done.job))
+    place_at places place ≡ standing serial (Claimed seat (jobs_of_run done.job))
 MayDo places seat (WasTaken place serial done) =
-    place_at places place ≡ standing serial (Decoded (answered done))
+    place_at places place ≡ standing serial (Decoded (answered_run done))
 MayDo places seat (WasWithdrawn place serial job) =
-    place_at places place ≡ standing serial (Offered (job_of job))
+    place_at places place ≡ standing serial (Offered (jobs_of_run job))
 
 -- ---- histories
 
 -- where it leads so many places that nothing was put into
-abbrev pub places_after : ℕ → List Entry → List JobPlace
+abbrev pub places_after : ℕ → List Entry → List RunPlace
 places_after places [] = unused_places places
 places_after places (e ∷ es) = after_deed (places_after places es) e.seat e.deed
 

@@ -1,16 +1,19 @@
 -- What the laws of histories speak of.
-use Rattle.std.specs.Prelude.{◌≡◌, ℕ, Bool, true, false, ◌&&◌, ◌==◌, List, Some, IfSome, slice_set}
+use Rattle.std.specs.Prelude.{◌≡◌, ℕ, All, Bool, true, false, ◌&&◌}
+use Rattle.std.specs.Prelude.{◌==◌, List, [], ◌∷◌, Some, slice_set}
 use Rattle.std.specs.List.{count_by}
 use mathlib.Core.Option.{some}
 use lib.ListN.{get_elem?}
 use Rattle.machine_model.specs.Feeders.{slice_job}
+use Rattle.machine_model.specs.Machine as machine
 use Rattle.machine_model.specs.Machine.{Event, Put, Machine, happens, is_legal_on_places}
 use Rattle.machine_model.specs.Places.{JobPlace, may_put}
-use Rattle.link_slices.specs.Jobs.{job_of}
+use Rattle.link_slices.specs.Jobs.{jobs_of_run}
+use Rattle.claim_board.specs.RunPlaces.{RunPlace, ShowRuns}
 use Rattle.claim_board.specs.declared.view.Entry.{Entry}
 use Rattle.claim_board.specs.declared.view.Deed.{Deed}
 use Rattle.claim_board.specs.declared.view.Deed.TheVariants.{WasPut, WasClaimed}
-use Rattle.claim_board.specs.History.{after_deed, event_of}
+use Rattle.claim_board.specs.History.{after_deed, events_of}
 use Rattle.claim_board.specs.Rule.{BoardState}
 use Rattle.claim_board.specs.Views.{SeatView, DidOnce}
 
@@ -35,14 +38,22 @@ abbrev pub is_legal_on_board : List JobPlace → Event → Bool
 is_legal_on_board places (Put place number index) = may_put places place
 is_legal_on_board places other = is_legal_on_places places other
 
--- what is put is the job of a slice that the feeder has
+-- each slice of what is put is the job of a slice that the feeder has
 abbrev pub IsOfFeeder : ℕ → Machine → Deed → Type 0
-IsOfFeeder window m (WasPut place job) =
-    slice_job window m.feeder job.number job.index ≡ Some (job_of job)
+IsOfFeeder window m (WasPut place run) = All
+    (λ job. slice_job window m.feeder job.number job.index ≡ Some job) (jobs_of_run run)
 IsOfFeeder window m deed = Unit {0}
 
--- the event of its name is legal on the machine's places, and leads where the deed leads
-abbrev pub IsItsEvent : ℕ → Machine → ℕ → Deed → Type 0
-IsItsEvent window m seat deed = IfSome (event_of seat deed) (λ e.
-    (is_legal_on_board m.places e ≡ true)
-    × ((happens window m e).places ≡ after_deed m.places seat deed))
+-- these events, one after another: each is legal on the machine's places where it comes
+abbrev pub AreLegal : ℕ → Machine → List Event → Type 0
+AreLegal window m [] = Unit {0}
+AreLegal window m (e ∷ es) =
+    (is_legal_on_board m.places e ≡ true) × AreLegal window (happens window m e) es
+
+-- the events of its name are legal one after another, and lead the machine's places where the deed
+-- leads the board's
+pub record AreItsEvents (window : ℕ) (m : Machine) (runs : List RunPlace) (seat : ℕ) (deed : Deed)
+    : Type 0 where
+  pub legal : AreLegal window m (events_of m.places seat deed)
+  pub leads : ShowRuns (machine.run window m (events_of m.places seat deed)).places
+      (after_deed runs seat deed)

@@ -1,3 +1,4 @@
+pub mod RunPlaces
 pub mod Counts
 pub mod History
 pub mod Views

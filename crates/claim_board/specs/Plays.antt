@@ -3,7 +3,7 @@
 use Rattle.std.specs.Prelude.{◌≡◌, ◌≢◌, ℕ, ◌+◌, ◌*◌, ◌%◌, ◌<◌, ◌≤◌, ◌^◌, List, [], ◌∷◌, true}
 use Rattle.std.specs.Prelude.{Some, None}
 use Rattle.atomic_table.specs.Table.{Me, Step}
-use Rattle.vc_slice.specs.declared.job.SliceJob.{SliceJob}
+use Rattle.vc_slice.specs.declared.run.RunLoad.{RunLoad}
 use Rattle.claim_board.specs.History.{waiting_word}
 use Rattle.claim_board.specs.Views.{SeatView, DidOnce, lane_at, lanes_back}
 use Rattle.claim_board.specs.declared.cargo.Cargo.{Cargo}
@@ -35,8 +35,8 @@ tells_fetch step old found new = StepsLeaving old new (WasFetched step.word) ((s
 
 -- the job of the slot taken last was put, and the answer there given
 abbrev pub HasPutOf : ℕ → SeatView → SeatState → List (ℕ × Slot) → Type 0
-HasPutOf place v new ((slot, Some (Waiting serial job)) ∷ rest) =
-    DidOnce v new.0 (WasPut place job) × (new.1 ≡ rest)
+HasPutOf place v new ((slot, Some (Waiting serial load)) ∷ rest) =
+    DidOnce v new.0 (WasPut place load.job) × (new.1 ≡ rest)
 HasPutOf place v new slots = Unit {0}
 
 abbrev pub HasGivenOf : ℕ → SeatView → SeatState → List (ℕ × Slot) → Type 0
@@ -50,11 +50,11 @@ tells_put step old found new = HasPutOf step.word old.0 new old.1
 abbrev pub tells_complete : Step Slot → SeatState → ℕ → SeatState → Type 0
 tells_complete step old found new = HasGivenOf step.word old.0 new old.1
 
--- a claim that was made: the slot has the job
+-- a claim that was made: the slot has the run
 pub record HasClaimed (place serial : ℕ) (old new : SeatState) : Type 0 where
-  pub job : SliceJob
-  pub did : StepsLeaving old new (WasClaimed place serial job)
-      ((place, Some (Waiting serial job)) ∷ old.1)
+  pub load : RunLoad
+  pub did : StepsLeaving old new (WasClaimed place serial load.job)
+      ((place, Some (Waiting serial load)) ∷ old.1)
   pub small : serial ≤ 2 ^ 61
 
 abbrev pub tells_claim : Step Slot → SeatState → ℕ → SeatState → Type 0
@@ -65,7 +65,7 @@ tells_claim step old found new =
 
 -- what the feeder did, where it has this back
 abbrev pub deed_back : ℕ → ℕ → Cargo → Deed
-deed_back place serial (Waiting stamp job) = WasWithdrawn place serial job
+deed_back place serial (Waiting stamp load) = WasWithdrawn place serial load.job
 deed_back place serial (Finished stamp done) = WasTaken place serial done
 
 -- the state of a place where this lies

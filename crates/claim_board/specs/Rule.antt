@@ -5,12 +5,12 @@ use mathlib.Core.Option.{some, none}
 use mathlib.Core.Option as maybe
 use lib.ListN.{get_elem?}
 use Rattle.atomic_table.specs.Table.{State}
-use Rattle.vc_slice.specs.declared.job.SliceJob.{SliceJob}
-use Rattle.vc_slice.specs.declared.done.SliceDone.{SliceDone}
+use Rattle.vc_slice.specs.declared.run.RunDone.{RunDone}
+use Rattle.vc_slice.specs.declared.run.RunLoad.{RunLoad}
 use Rattle.claim_board.specs.Views.{lane}
 use Rattle.claim_board.specs.declared.view.Lane.{Lane}
-use Rattle.machine_model.specs.Places.{Content, Nothing, Offered, Claimed, Decoded, JobPlace, place_at}
-use Rattle.link_slices.specs.Jobs.{answered, job_of}
+use Rattle.claim_board.specs.RunPlaces.{Content, Nothing, Offered, Claimed, Decoded, RunPlace, place_at}
+use Rattle.link_slices.specs.Jobs.{answered_run, jobs_of_run}
 use Rattle.claim_board.specs.Views.{SeatView, lane_at}
 use Rattle.claim_board.specs.History.{word_of, places_after, IsHistory, Each, Continues, IsOther, IsBelow}
 use Rattle.claim_board.specs.declared.cargo.Cargo.{Cargo}
@@ -33,16 +33,16 @@ is_out content = true
 -- it; a job or an answer is the one that stands there, stamped with the serial
 abbrev pub Lies : maybe.Option (maybe.Option Slot) → Bool → ℕ → Content → Type 0
 Lies home true serial Nothing = home ≡ some none
-Lies home true serial (Offered job) =
-    (own : SliceJob) × (home ≡ some (some (Some (Waiting serial own)))) × (job ≡ job_of own)
-Lies home true serial (Claimed seat job) = home ≡ some none
-Lies home true serial (Decoded done) =
-    (own : SliceDone) × (home ≡ some (some (Some (Finished serial own)))) × (done ≡ answered own)
+Lies home true serial (Offered jobs) =
+    (own : RunLoad) × (home ≡ some (some (Some (Waiting serial own)))) × (jobs ≡ jobs_of_run own.job)
+Lies home true serial (Claimed seat jobs) = home ≡ some none
+Lies home true serial (Decoded dones) =
+    (own : RunDone) × (home ≡ some (some (Some (Finished serial own)))) × (dones ≡ answered_run own)
 Lies home false serial Nothing = home ≡ some (some None)
 Lies home false serial content = ⊥
 
--- a word, a slot and the feeder's lane show a place of the machine
-pub record ShowsPlace (word : ℕ) (home : maybe.Option (maybe.Option Slot)) (known : Lane) (p : JobPlace)
+-- a word, a slot and the feeder's lane show a place of the board
+pub record ShowsPlace (word : ℕ) (home : maybe.Option (maybe.Option Slot)) (known : Lane) (p : RunPlace)
     : Type 0 where
   pub shows : word ≡ word_of p
   pub small : p.serial ≤ 2 ^ 61
@@ -56,7 +56,7 @@ pub record Knows (many seat : ℕ) (history : List Entry) (v : SeatView) : Type 
   pub number : v.number ≡ seat
   pub since : Continues (IsOther seat) history v.history
 
--- There is one history of all steps. It is a run of the machine, and the table is what it leads to.
+-- There is one history of all steps, and the table is what it leads to.
 pub record BoardRule (s : BoardState) : Type 0 where
   pub places : ℕ
   pub history : List Entry

@@ -2,10 +2,10 @@
 use Rattle.std.specs.Prelude.{◌≡◌, ℕ, ◌+◌, ◌^◌, ◌&&◌, Bool, true, false, nat_lt, not, List, [], ◌∷◌}
 use Rattle.std.specs.Prelude.{slice_index_or, slice_set, replicate}
 use Rattle.claim_board.specs.declared.view.Lane.{Lane}
-use Rattle.machine_model.specs.Places.{Content, place_at}
-use Rattle.machine_model.specs.Places as places
-use Rattle.link_slices.specs.Jobs.{job_of}
-use Rattle.vc_slice.specs.declared.job.SliceJob.{SliceJob}
+use Rattle.claim_board.specs.RunPlaces.{Content, place_at}
+use Rattle.claim_board.specs.RunPlaces as places
+use Rattle.link_slices.specs.Jobs.{jobs_of_run}
+use Rattle.vc_slice.specs.declared.run.RunJob.{RunJob}
 use Rattle.claim_board.specs.declared.view.Entry.{Entry}
 use Rattle.claim_board.specs.declared.view.View.{View}
 use Rattle.claim_board.specs.declared.view.Deed.{Deed}
@@ -100,9 +100,9 @@ DidAtLast place old new deed = HasDone (IsOtherOrRead old.number place) old new 
 -- ---- what a seat holds
 
 -- the seat holds the place with this serial, and the job is the one that was put
-abbrev pub Holds : SeatView → ℕ → ℕ → SliceJob → Type 0
+abbrev pub Holds : SeatView → ℕ → ℕ → RunJob → Type 0
 Holds v place serial job = place_at (places_after v.places v.history) place
-    ≡ standing serial (places.Claimed v.number (job_of job))
+    ≡ standing serial (places.Claimed v.number (jobs_of_run job))
 
 -- what stands there, by what the seat knows
 abbrev pub content_at : SeatView → ℕ → Content

@@ -1,10 +1,10 @@
-use vc_slice::{SliceDone, SliceJob};
+use vc_slice::{RunDone, RunLoad};
 
 /// What lies in a slot, stamped with the serial of its place.
 #[derive(Drop)]
 pub(crate) enum Cargo {
-    Waiting(u64, SliceJob),
-    Finished(u64, SliceDone),
+    Waiting(u64, RunLoad),
+    Finished(u64, RunDone),
 }
 
 /// The state of a place where a job lies.

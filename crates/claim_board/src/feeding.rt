@@ -17,7 +17,7 @@ use crate::slots::bring;
 use crate::view::Lane;
 use crate::working::NotWaiting;
 use std::collections::VecDeque;
-use vc_slice::{SliceDone, SliceJob};
+use vc_slice::{RunDone, RunLoad};
 
 /// The word that was read, which isn't done.
 #[derive(Clone, Copy, Debug, PartialEq, Eq)]
@@ -26,15 +26,15 @@ pub struct NotYet {
 }
 
 impl Board {
-    /// Hands a job to an empty place, and raises its serial by 1. The bell rings for each job while
+    /// Hands a run to an empty place, and raises its serial by 1. The bell rings for each job while
     /// up to 16 places are out, and then for one in 16.
-    pub fn put(&self, f: &mut FeederSeat, place: u32, job: SliceJob)
+    pub fn put(&self, f: &mut FeederSeat, place: u32, load: RunLoad)
         requires seat { IsFeederOf self.now f.old }
         requires place { place < place_count self.now }
         requires empty { (lane_at (feeder_sees f.old) place).is_out ≡ false }
         requires serial { (lane_at (feeder_sees f.old) place).serial < 2 ^ 61 }
         ensures seat { IsFeederOf self.now f.new }
-        ensures did { DidOnce (feeder_sees f.old) (feeder_sees f.new) (WasPut place job) }
+        ensures did { DidOnce (feeder_sees f.old) (feeder_sees f.new) (WasPut place load.job) }
         ensures out { lane_at (feeder_sees f.new) place
             ≡ lane ((lane_at (feeder_sees f.old) place).serial + 1) true true }
     {
@@ -46,7 +46,7 @@ impl Board {
         } = f;
         let place = place as usize;
         let serial = lanes[place].serial + 1;
-        self.put_at(seat, order, place, serial, job);
+        self.put_at(seat, order, place, serial, load);
         lanes[place] = Lane {
             serial,
             is_fetched: true,
@@ -62,7 +62,7 @@ impl Board {
         order: &mut VecDeque<usize>,
         place: usize,
         serial: u64,
-        job: SliceJob,
+        load: RunLoad,
     )
         requires table { MayStep self.now seat.old place }
         requires feeder { seat.old.me.0.number ≡ 0 }
@@ -71,7 +71,7 @@ impl Board {
         requires slots { (seat.old.me.1 ≡ empty_slots order.old.items)
             × (0 < occurrences place order.old.items) }
         ensures id { IsSameSeat seat.old seat.new }
-        ensures did { DidOnce seat.old.me.0 seat.new.me.0 (WasPut place job) }
+        ensures did { DidOnce seat.old.me.0 seat.new.me.0 (WasPut place load.job) }
         ensures slots { seat.new.me.1 ≡ empty_slots order.new.items }
         ensures order { (q : ℕ)
             → occurrences q order.old.items
@@ -79,13 +79,13 @@ impl Board {
         ensures room { deque_capacity order.new ≡ deque_capacity order.old }
     {
         bring(seat, order, place);
-        self.give_job(seat, place, serial, job);
+        self.give_job(seat, place, serial, load);
         let _place = order.pop_front();
     }
 
     /// Takes the answer of a place that is done, which is empty then. The answer was stamped with
     /// the serial that the seat knows of the place.
-    pub fn take(&self, f: &mut FeederSeat, place: u32) -> Result<SliceDone, NotYet>
+    pub fn take(&self, f: &mut FeederSeat, place: u32) -> Result<RunDone, NotYet>
         requires seat { IsFeederOf self.now f.old }
         requires place { place < place_count self.now }
         ensures seat { IsFeederOf self.now f.new }
@@ -106,12 +106,12 @@ impl Board {
 
     /// Takes the job back of a place that waits, which is empty then. The job was stamped with the
     /// serial that the seat knows of the place.
-    pub fn withdraw(&self, f: &mut FeederSeat, place: u32) -> Result<SliceJob, NotWaiting>
+    pub fn withdraw(&self, f: &mut FeederSeat, place: u32) -> Result<RunLoad, NotWaiting>
         requires seat { IsFeederOf self.now f.old }
         requires place { place < place_count self.now }
         ensures seat { IsFeederOf self.now f.new }
-        ensures took { IfOk result (λ job. DidOnce (feeder_sees f.old) (feeder_sees f.new)
-            (WasWithdrawn place (lane_at (feeder_sees f.old) place).serial job)) }
+        ensures took { IfOk result (λ load. DidOnce (feeder_sees f.old) (feeder_sees f.new)
+            (WasWithdrawn place (lane_at (feeder_sees f.old) place).serial load.job)) }
         ensures empty { OnOk result (lane_at (feeder_sees f.new) place
             ≡ lane (lane_at (feeder_sees f.old) place).serial true false) }
         ensures was_out { OnOk result ((lane_at (feeder_sees f.old) place).is_out ≡ true) }
@@ -119,7 +119,7 @@ impl Board {
             (WasRead place e.word) × (e.word % 4 ≢ 1)) }
     {
         match self.take_back(f, place, WAITING) {
-            Ok(Cargo::Waiting(_, job)) => Ok(job),
+            Ok(Cargo::Waiting(_, load)) => Ok(load),
             Ok(Cargo::Finished(_, _)) => unreachable!(),
             Err(word) => Err(NotWaiting { word }),
         }

@@ -6,13 +6,13 @@ ghost use Rattle.claim_board.specs.declared.view.Deed.{Deed};
 ghost use Rattle.claim_board.specs.declared.view.Deed.TheVariants.{WasRead, WasTaken};
 ghost use Rattle.claim_board.specs.declared.view.Entry.{Entry};
 ghost use Rattle.claim_board.specs.History.{after_deed, entry_of, places_after, word_of, IsHistory, MayDo};
-ghost use Rattle.claim_board.specs.Laws.{claims_in, IsItsEvent, IsOfFeeder, IsStepOf};
+ghost use Rattle.claim_board.specs.Laws.{claims_in, AreItsEvents, IsOfFeeder, IsStepOf};
+ghost use Rattle.claim_board.specs.RunPlaces.{RunPlace, ShowRuns, place_at};
 ghost use Rattle.claim_board.specs.Rule.{BoardRule, BoardState};
 ghost use Rattle.claim_board.specs.Views.{SeatView};
 ghost use Rattle.machine_model.specs.Machine.{Machine};
-ghost use Rattle.machine_model.specs.Places.{place_at};
-ghost use Rattle.link_slices.specs.Jobs.{answered};
-ghost use Rattle.vc_slice.specs.declared.done.SliceDone.{SliceDone};
+ghost use Rattle.link_slices.specs.Jobs.{answered_run};
+ghost use Rattle.vc_slice.specs.declared.run.RunDone.{RunDone};
 
 /// The rule leaves a step no choice: after it the history is the one before it, and the step as the
 /// last one. Its deed may stand there, and the words after it are what the deed leads to; a word
@@ -32,9 +32,9 @@ pub fn each_step_is_the_last()
         (v : SeatView) (place word : ℕ) → IsStepOf s t seat v (WasRead place word)
         → place < length s.words → word ≡ slice_index s.words place }
     ensures taken { (s t : BoardState) (old : BoardRule s) (new : BoardRule t) (seat : ℕ)
-        (v : SeatView) (place serial : ℕ) (done : SliceDone)
+        (v : SeatView) (place serial : ℕ) (done : RunDone)
         → IsStepOf s t seat v (WasTaken place serial done) → place < length s.words
-        → (own : SliceDone) × (answered own ≡ answered done)
+        → (own : RunDone) × (answered_run own ≡ answered_run done)
         × (get_elem? s.homes place ≡ some (some (Some (Finished serial own)))) }
 {}
 
@@ -44,9 +44,10 @@ pub fn each_round_has_one_claim()
         → claims_in place serial history ≤ 1 }
 {}
 
-/// A step is the event of its name of the machine: legal on its places, and what it leads to is what
-/// the event makes of them.
-pub fn each_deed_is_its_event()
-    ensures { (window : ℕ) (m : Machine) (seat : ℕ) (deed : Deed) → MayDo m.places seat deed
-        → IsOfFeeder window m deed → IsItsEvent window m seat deed }
+/// A step is an event of its name of the machine for each slice of its run, one after another: each is legal
+/// on the machine's places, and what they lead to shows what the step leads to.
+pub fn each_deed_is_its_events()
+    ensures { (window : ℕ) (m : Machine) (runs : List RunPlace) (seat : ℕ) (deed : Deed)
+        → ShowRuns m.places runs → MayDo runs seat deed → IsOfFeeder window m deed
+        → AreItsEvents window m runs seat deed }
 {}

@@ -12,7 +12,7 @@ use crate::marks::Marks;
 use crate::seats::FeederSeat;
 use std::alloc::Global;
 use std::sync::Arc;
-use vc_slice::{Places, SliceDone, SliceJob};
+use vc_slice::{Places, RunDone, RunLoad};
 use vc_types::NoMemory;
 
 // The serial of a place stays below it.
@@ -80,24 +80,24 @@ impl Places for BoardFeeder {
 
     ghost told = { λ _. None };
 
-    fn put(&mut self, job: SliceJob) -> Result<u32, SliceJob>
+    fn put(&mut self, load: RunLoad) -> Result<u32, RunLoad>
         ensures bound { feeder_bound self.new ≡ feeder_bound self.old }
         ensures place { IfOk result (λ place. place < feeder_bound self.old) }
-        ensures back { IfErr result (λ same. same ≡ job) }
-        ensures board { HasOffered self.old self.new job result }
+        ensures back { IfErr result (λ same. same ≡ load) }
+        ensures board { HasOffered self.old self.new load.job result }
     {
         self.sweep();
         match self.free_place() {
             Some(place) => {
-                self.board.put(&mut self.seat, place, job);
+                self.board.put(&mut self.seat, place, load);
                 self.free_from = place + 1;
                 Ok(place)
             }
-            None => Err(job),
+            None => Err(load),
         }
     }
 
-    fn take(&mut self, place: u32) -> Option<SliceDone>
+    fn take(&mut self, place: u32) -> Option<RunDone>
         requires place { place < feeder_bound self.old }
         ensures bound { feeder_bound self.new ≡ feeder_bound self.old }
         ensures board { HasAsked self.old self.new place result }
@@ -110,17 +110,17 @@ impl Places for BoardFeeder {
         Some(done)
     }
 
-    fn withdraw(&mut self, place: u32) -> Option<SliceJob>
+    fn withdraw(&mut self, place: u32) -> Option<RunLoad>
         requires place { place < feeder_bound self.old }
         ensures bound { feeder_bound self.new ≡ feeder_bound self.old }
         ensures board { HasAskedBack self.old self.new place result }
     {
-        let Ok(job) = self.board.withdraw(&mut self.seat, place) else {
+        let Ok(load) = self.board.withdraw(&mut self.seat, place) else {
             return None;
         };
         self.left.set(place as usize, false);
         self.free_from = self.free_from.min(place);
-        Some(job)
+        Some(load)
     }
 
     fn leave(&mut self, place: u32)

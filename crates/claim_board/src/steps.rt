@@ -2,7 +2,7 @@ ghost use Rattle.std.specs.Prelude.{◌≡◌, ◌≢◌, ◌+◌, ◌-◌, ◌*
 ghost use Rattle.std.specs.Prelude.{false, [], ◌∷◌, ◌⊎◌, Some, None};
 ghost use Rattle.atomic_table.specs.Table.{rest};
 ghost use Rattle.claim_board.specs.Views.{lane};
-ghost use Rattle.vc_slice.specs.declared.job.SliceJob.{SliceJob};
+ghost use Rattle.vc_slice.specs.declared.run.RunLoad.{RunLoad};
 ghost use Rattle.claim_board.specs.Plays.{StepsLeaving, HasClaimed, HasTakenBack};
 ghost use Rattle.claim_board.specs.declared.cargo.Cargo.{Cargo};
 ghost use Rattle.claim_board.specs.declared.cargo.Cargo.TheVariants.{Waiting, Finished};
@@ -15,7 +15,7 @@ use crate::board::Board;
 use crate::cargo::Cargo;
 use crate::plays::{Claim, Complete, Fetch, Hire, Load, Put, TakeBack};
 use crate::seats::Seat;
-use vc_slice::{SliceDone, SliceJob};
+use vc_slice::{RunDone, RunLoad};
 
 // One step each, and one exchange of a slot each.
 impl Board {
@@ -65,17 +65,17 @@ impl Board {
     }
 
     // The slot taken last has a job.
-    pub(crate) fn open_job(&self, seat: &mut Seat, place: usize, serial: u64) -> SliceJob
+    pub(crate) fn open_job(&self, seat: &mut Seat, place: usize, serial: u64) -> RunLoad
         requires table { seat.old.table_id ≡ self.now.table.shared.table_id }
-        requires slot { (job : SliceJob)
-            × (seat.old.me.1 ≡ (place, Some (Waiting serial job)) ∷ rest seat.old.me.1) }
+        requires slot { (load : RunLoad)
+            × (seat.old.me.1 ≡ (place, Some (Waiting serial load)) ∷ rest seat.old.me.1) }
         ensures id { IsSameSeat seat.old seat.new }
         ensures stamped { seat.old.me.1
             ≡ (place, Some (Waiting serial result)) ∷ rest seat.old.me.1 }
         ensures slot { seat.new.me ≡ (seat.old.me.0, (place, None) ∷ rest seat.old.me.1) }
     {
         match self.table.shared.exchange(seat, place, None) {
-            Some(Cargo::Waiting(_, job)) => job,
+            Some(Cargo::Waiting(_, load)) => load,
             _ => unreachable!(),
         }
     }
@@ -96,24 +96,24 @@ impl Board {
     }
 
     // Puts a job into the slot in front, and gives the slot back.
-    pub(crate) fn give_job(&self, seat: &mut Seat, place: usize, serial: u64, job: SliceJob)
+    pub(crate) fn give_job(&self, seat: &mut Seat, place: usize, serial: u64, load: RunLoad)
         requires table { MayStep self.now seat.old place }
         requires feeder { seat.old.me.0.number ≡ 0 }
         requires idle { (lane_at seat.old.me.0 place ≡ lane (serial - 1) true false)
             × (0 < serial) × (serial ≤ 2 ^ 61) }
         requires slot { seat.old.me.1 ≡ (place, None) ∷ rest seat.old.me.1 }
         ensures id { IsSameSeat seat.old seat.new }
-        ensures view { StepsLeaving seat.old.me seat.new.me (WasPut place job) (rest seat.old.me.1) }
+        ensures view { StepsLeaving seat.old.me seat.new.me (WasPut place load.job) (rest seat.old.me.1) }
     {
         let _none = self
             .table
             .shared
-            .exchange(seat, place, Some(Cargo::Waiting(serial, job)));
+            .exchange(seat, place, Some(Cargo::Waiting(serial, load)));
         self.table.shared.store::<Put>(seat, place, 4 * serial + 1);
     }
 
     // Puts an answer into the slot in front, and gives the slot back.
-    pub(crate) fn give_done(&self, seat: &mut Seat, place: usize, serial: u64, done: SliceDone)
+    pub(crate) fn give_done(&self, seat: &mut Seat, place: usize, serial: u64, done: RunDone)
         requires table { MayStep self.now seat.old place }
         requires holds { Holds seat.old.me.0 place serial done.job × (serial ≤ 2 ^ 61) }
         requires slot { seat.old.me.1 ≡ (place, None) ∷ rest seat.old.me.1 }

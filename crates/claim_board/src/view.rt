@@ -1,5 +1,5 @@
 use std::collections::LinkedList;
-use vc_slice::{SliceDone, SliceJob};
+use vc_slice::{RunDone, RunJob};
 
 /// What the feeder knows of a place: its serial, whether its slot was fetched once, and whether it
 /// is out, that is not empty.
@@ -17,11 +17,11 @@ pub enum Deed {
     WasRead(usize, u64),
     /// The slot came to the feeder for the first time.
     WasFetched(usize),
-    WasPut(usize, SliceJob),
-    WasClaimed(usize, u64, SliceJob),
-    WasCompleted(usize, u64, SliceDone),
-    WasTaken(usize, u64, SliceDone),
-    WasWithdrawn(usize, u64, SliceJob),
+    WasPut(usize, RunJob),
+    WasClaimed(usize, u64, RunJob),
+    WasCompleted(usize, u64, RunDone),
+    WasTaken(usize, u64, RunDone),
+    WasWithdrawn(usize, u64, RunJob),
 }
 
 /// A step, and the number of the seat that made it.

@@ -13,15 +13,21 @@ use crate::board::Board;
 use crate::seats::{Seat, WorkerSeat};
 use crate::slots::bring;
 use std::collections::VecDeque;
-use vc_slice::{SliceDone, SliceJob};
+use vc_slice::{RunDone, RunLoad};
 
-/// A place that was claimed: its serial then, and its job.
-#[derive(Drop)]
+/// A place that a worker holds, and the serial of its round.
+#[derive(Clone, Copy)]
 pub struct HeldPlace {
     pub place: u32,
     pub serial: u64,
-    pub job: SliceJob,
     pub ghost small: { serial ≤ 2 ^ 61 },
+}
+
+/// What a claim brings: the place, and the run that waited there.
+#[derive(Drop)]
+pub struct ClaimedRun {
+    pub held: HeldPlace,
+    pub load: RunLoad,
 }
 
 /// The word that was read, which isn't waiting.
@@ -33,18 +39,20 @@ pub struct NotWaiting {
 // What a claim brings.
 struct Claimed {
     serial: u64,
-    job: SliceJob,
+    load: RunLoad,
 }
 
 impl Board {
-    /// Claims the job of a place that waits: the one that was put with the serial.
-    pub fn claim(&self, s: &mut WorkerSeat, place: u32) -> Result<HeldPlace, NotWaiting>
+    /// Claims the run of a place that waits: the one that was put with the serial.
+    pub fn claim(&self, s: &mut WorkerSeat, place: u32) -> Result<ClaimedRun, NotWaiting>
         requires seat { IsWorkerOf self.now s.old }
         requires place { place < place_count self.now }
         ensures seat { IsWorkerOf self.now s.new }
-        ensures claimed { IfOk result (λ h. (h.place ≡ place) × DidAtLast place (worker_sees s.old)
-            (worker_sees s.new) (WasClaimed place h.serial h.job)) }
-        ensures mine { IfOk result (λ h. Holds (worker_sees s.new) place h.serial h.job) }
+        ensures claimed { IfOk result (λ c. (c.held.place ≡ place)
+            × DidAtLast place (worker_sees s.old) (worker_sees s.new)
+            (WasClaimed place c.held.serial c.load.job)) }
+        ensures mine { IfOk result
+            (λ c. Holds (worker_sees s.new) place c.held.serial c.load.job) }
         ensures refused { IfErr result (λ e. DidAtLast place (worker_sees s.old)
             (worker_sees s.new) (WasRead place e.word) × (e.word % 4 ≢ 1)) }
     {
@@ -53,12 +61,13 @@ impl Board {
             bell: _,
             order,
         } = s;
-        let Claimed { serial, job } = match self.claim_at(seat, place as usize) {
+        let Claimed { serial, load } = match self.claim_at(seat, place as usize) {
             Ok(claimed) => claimed,
             Err(word) => return Err(NotWaiting { word }),
         };
         order.push_front_reserved(place as usize);
-        Ok(HeldPlace { place, serial, job })
+        let held = HeldPlace { place, serial };
+        Ok(ClaimedRun { held, load })
     }
 
     // Each turn of the loop finds a word of a greater serial.
@@ -66,7 +75,7 @@ impl Board {
         requires table { MayStep self.now seat.old place }
         ensures id { IsSameSeat seat.old seat.new }
         ensures claimed { IfOk result (λ c. DidAtLast place seat.old.me.0 seat.new.me.0
-            (WasClaimed place c.serial c.job)) }
+            (WasClaimed place c.serial c.load.job)) }
         ensures slot { IfOk result (λ c. seat.new.me.1 ≡ (place, None) ∷ seat.old.me.1) }
         ensures small { IfOk result (λ c. c.serial ≤ 2 ^ 61) }
         ensures refused { IfErr result (λ word. DidAtLast place seat.old.me.0 seat.new.me.0
@@ -77,8 +86,8 @@ impl Board {
             let found = self.try_claim(seat, place, word);
             if found == word {
                 let serial = word / 4;
-                let job = self.open_job(seat, place, serial);
-                return Ok(Claimed { serial, job });
+                let load = self.open_job(seat, place, serial);
+                return Ok(Claimed { serial, load });
             }
             if found % 4 != 1 {
                 return Err(found);
@@ -89,26 +98,20 @@ impl Board {
     }
 
     /// Gives a claimed place back, done.
-    pub fn complete(&self, s: &mut WorkerSeat, h: HeldPlace, done: SliceDone)
+    pub fn complete(&self, s: &mut WorkerSeat, held: HeldPlace, done: RunDone)
         requires seat { IsWorkerOf self.now s.old }
-        requires place { h.place < place_count self.now }
-        requires held { Holds (worker_sees s.old) h.place h.serial h.job }
-        requires job { done.job ≡ h.job }
+        requires place { held.place < place_count self.now }
+        requires held { Holds (worker_sees s.old) held.place held.serial done.job }
         ensures seat { IsWorkerOf self.now s.new }
         ensures did { DidOnce (worker_sees s.old) (worker_sees s.new)
-            (WasCompleted h.place h.serial done) }
+            (WasCompleted held.place held.serial done) }
     {
-        let HeldPlace {
-            place,
-            serial,
-            job: _,
-        } = h;
         let WorkerSeat {
             seat,
             bell: _,
             order,
         } = s;
-        self.complete_at(seat, order, place as usize, serial, done);
+        self.complete_at(seat, order, held.place as usize, held.serial, done);
     }
 
     fn complete_at(
@@ -117,7 +120,7 @@ impl Board {
         order: &mut VecDeque<usize>,
         place: usize,
         serial: u64,
-        done: SliceDone,
+        done: RunDone,
     )
         requires table { MayStep self.now seat.old place }
         requires holds { Holds seat.old.me.0 place serial done.job × (serial ≤ 2 ^ 61) }

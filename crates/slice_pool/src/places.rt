@@ -4,7 +4,7 @@ ghost use Rattle.slice_pool.specs.Crews.{HandsOn, bound_at, crew_at};
 
 use crate::crew::Crew;
 use crate::team::Stage;
-use vc_slice::{Places, SliceDone, SliceJob};
+use vc_slice::{Places, RunDone, RunLoad};
 
 // With workers each call is the form's, and waits for nobody.
 impl<H, F> Places for Crew<H, F> {
@@ -14,20 +14,20 @@ impl<H, F> Places for Crew<H, F> {
 
     ghost told = { λ _. None };
 
-    fn put(&mut self, job: SliceJob) -> Result<u32, SliceJob>
+    fn put(&mut self, load: RunLoad) -> Result<u32, RunLoad>
         ensures bound { bound_at (crew_at self.new) ≡ bound_at (crew_at self.old) }
         ensures place { IfOk result (λ place. place < bound_at (crew_at self.old)) }
-        ensures back { IfErr result (λ same. same ≡ job) }
-        ensures board { HandsOn (λ old new. HasOffered old new job result) (result ≡ Err job)
+        ensures back { IfErr result (λ same. same ≡ load) }
+        ensures board { HandsOn (λ old new. HasOffered old new load.job result) (result ≡ Err load)
             (crew_at self.old) (crew_at self.new) }
     {
         match &mut self.stage {
-            Stage::Working(team) => team.form.put(job),
-            _ => Err(job),
+            Stage::Working(team) => team.form.put(load),
+            _ => Err(load),
         }
     }
 
-    fn take(&mut self, place: u32) -> Option<SliceDone>
+    fn take(&mut self, place: u32) -> Option<RunDone>
         requires place { place < bound_at (crew_at self.old) }
         ensures bound { bound_at (crew_at self.new) ≡ bound_at (crew_at self.old) }
         ensures board { HandsOn (λ old new. HasAsked old new place result) (result ≡ None)
@@ -39,7 +39,7 @@ impl<H, F> Places for Crew<H, F> {
         }
     }
 
-    fn withdraw(&mut self, place: u32) -> Option<SliceJob>
+    fn withdraw(&mut self, place: u32) -> Option<RunLoad>
         requires place { place < bound_at (crew_at self.old) }
         ensures bound { bound_at (crew_at self.new) ≡ bound_at (crew_at self.old) }
         ensures board { HandsOn (λ old new. HasAskedBack old new place result) (result ≡ None)

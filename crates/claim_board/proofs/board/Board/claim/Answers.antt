@@ -8,7 +8,7 @@ use Rattle.claim_board.proofs.board.Board.claim.Goals as goal
 pub push_front_reserved-requires : goal.push_front_reserved-requires
 push_front_reserved-requires c =
     let s = c.args.s.now in
-    let none = not_held_yet c.args.place c.in-Ok.claimed.serial c.in-Ok.claimed.job s.seat.me.0 c.claim_at.new.seat.me.0 c.in-Ok.ensures.claimed in
+    let none = not_held_yet c.args.place c.in-Ok.claimed.serial c.in-Ok.claimed.load.job s.seat.me.0 c.claim_at.new.seat.me.0 c.in-Ok.ensures.claimed in
     let words : s.seat.table_id.words ≡ c.args.self.now.table.shared.table_id.words = ap (λ (t : TableId). t.words) c.requires.seat.0 in
     let within : c.args.place < s.seat.table_id.words = (let p = c.requires.place in omega arith) in
     let h : length s.order.items < deque_capacity s.order = room_for_one c.args.place s.seat.table_id.words (deque_capacity s.order) s.order.items s.seat.me.0 s.holds s.below none within s.room in
@@ -18,7 +18,7 @@ pub invariant_of-s-2-clause-holds : goal.invariant_of-s-2-clause-holds
 invariant_of-s-2-clause-holds c = λ q.
     let s = c.args.s.now in
     ap (occurrences q) c.push_front_reserved.ensures.items
-    ∙ held_claimed c.args.place c.in-Ok.claimed.serial c.in-Ok.claimed.job s.seat.me.0 c.claim_at.new.seat.me.0 q s.order.items c.in-Ok.ensures.claimed s.holds
+    ∙ held_claimed c.args.place c.in-Ok.claimed.serial c.in-Ok.claimed.load.job s.seat.me.0 c.claim_at.new.seat.me.0 q s.order.items c.in-Ok.ensures.claimed s.holds
 
 pub invariant_of-s-2-clause-below : goal.invariant_of-s-2-clause-below
 invariant_of-s-2-clause-below c = λ q past.
@@ -43,7 +43,7 @@ invariant_of-s c =
     }
 
 pub returns-clause-mine : goal.returns-clause-mine
-returns-clause-mine c = claimed_holds c.args.place c.in-Ok.claimed.serial c.in-Ok.claimed.job c.args.s.now.seat.me.0 c.claim_at.new.seat.me.0 c.in-Ok.ensures.claimed
+returns-clause-mine c = claimed_holds c.args.place c.in-Ok.claimed.serial c.in-Ok.claimed.load.job c.args.s.now.seat.me.0 c.claim_at.new.seat.me.0 c.in-Ok.ensures.claimed
 
 pub claim_at-requires : goal.claim_at-requires
 claim_at-requires c = record { table = record { table = c.requires.seat.0; within = c.requires.place } }

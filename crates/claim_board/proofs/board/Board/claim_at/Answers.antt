@@ -7,17 +7,17 @@ use Rattle.claim_board.specs.declared.view.Deed.TheVariants.{WasRead}
 use Rattle.claim_board.proofs.Holds.{at_last, claims_then, no_earlier, read_last, reads_then}
 use Rattle.claim_board.proofs.board.Board.claim_at.Goals as goal
 
-pub open_job-job-requires-clause-slot : goal.open_job-job-requires-clause-slot
-open_job-job-requires-clause-slot c =
+pub open_job-load-requires-clause-slot : goal.open_job-load-requires-clause-slot
+open_job-load-requires-clause-slot c =
     let won = c.try_claim-found.ensures.won c.if-found-word.true in
     let e = won.did.1 in
-    (won.job, e ∙ ap (λ (r : List (ℕ × Slot)). (c.args.place, Some (Waiting (c.loop-word.word / 4) won.job)) ∷ r) (sym (ap rest e)))
+    (won.load, e ∙ ap (λ (r : List (ℕ × Slot)). (c.args.place, Some (Waiting (c.loop-word.word / 4) won.load)) ∷ r) (sym (ap rest e)))
 
 pub returns-then-found-word-clause-claimed : goal.returns-then-found-word-clause-claimed
 returns-then-found-word-clause-claimed c =
     let won = c.try_claim-found.ensures.won c.if-found-word.true in
-    claims_then c.args.place c.loop-word.word (c.loop-word.word / 4) c.open_job-job.result won.job c.args.seat.now.me.0 c.loop-word.seat.me.0 c.try_claim-found.new.seat.me.0 c.open_job-job.new.seat.me.0 c.loop-word.seat.me.1 c.try_claim-found.new.seat.me.1
-    c.loop-word.invariant.reads won.did.0 won.did.1 c.open_job-job.ensures.stamped (ap (λ (m : SeatState). m.0) c.open_job-job.ensures.slot)
+    claims_then c.args.place c.loop-word.word (c.loop-word.word / 4) c.open_job-load.result won.load c.args.seat.now.me.0 c.loop-word.seat.me.0 c.try_claim-found.new.seat.me.0 c.open_job-load.new.seat.me.0 c.loop-word.seat.me.1 c.try_claim-found.new.seat.me.1
+    c.loop-word.invariant.reads won.did.0 won.did.1 c.open_job-load.ensures.stamped (ap (λ (m : SeatState). m.0) c.open_job-load.ensures.slot)
 
 pub returns-then-found-ne1-clause-refused : goal.returns-then-found-ne1-clause-refused
 returns-then-found-ne1-clause-refused c =
@@ -69,19 +69,19 @@ try_claim-found-requires-clause-table c = record {
 pub try_claim-found-requires-clause-waiting : goal.try_claim-found-requires-clause-waiting
 try_claim-found-requires-clause-waiting c = c.loop-word-test.true
 
-pub open_job-job-requires-clause-table : goal.open_job-job-requires-clause-table
-open_job-job-requires-clause-table c = c.try_claim-found.ensures.id.table ∙ c.loop-word.invariant.table ∙ c.requires.table.table
+pub open_job-load-requires-clause-table : goal.open_job-load-requires-clause-table
+open_job-load-requires-clause-table c = c.try_claim-found.ensures.id.table ∙ c.loop-word.invariant.table ∙ c.requires.table.table
 
 pub returns-then-found-word-clause-id : goal.returns-then-found-word-clause-id
 returns-then-found-word-clause-id c = record {
-  table = c.open_job-job.ensures.id.table ∙ c.try_claim-found.ensures.id.table ∙ c.loop-word.invariant.table;
-  number = c.open_job-job.ensures.id.number ∙ c.try_claim-found.ensures.id.number ∙ c.loop-word.invariant.id;
+  table = c.open_job-load.ensures.id.table ∙ c.try_claim-found.ensures.id.table ∙ c.loop-word.invariant.table;
+  number = c.open_job-load.ensures.id.number ∙ c.try_claim-found.ensures.id.number ∙ c.loop-word.invariant.id;
 }
 
 pub returns-then-found-word-clause-slot : goal.returns-then-found-word-clause-slot
 returns-then-found-word-clause-slot c =
     let won = c.try_claim-found.ensures.won c.if-found-word.true in
-    ap (λ (m : SeatState). m.1) c.open_job-job.ensures.slot
+    ap (λ (m : SeatState). m.1) c.open_job-load.ensures.slot
     ∙ ap (λ (r : List (ℕ × Slot)). (c.args.place, None) ∷ r) (ap rest won.did.1 ∙ c.loop-word.invariant.slots)
 
 pub returns-then-found-word-clause-small : goal.returns-then-found-word-clause-small

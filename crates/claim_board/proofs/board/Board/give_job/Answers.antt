@@ -11,7 +11,7 @@ store-requires c =
     let view = ap (λ (m : SeatState). m.0) x.3 in (
       search rules,
       search rules,
-      puts_at _ c.exchange-none.new.seat.id c.exchange-none.new.seat.me c.args.place c.args.serial c.args.job (rest c.args.seat.now.me.1)
+      puts_at _ c.exchange-none.new.seat.id c.exchange-none.new.seat.me c.args.place c.args.serial c.args.load (rest c.args.seat.now.me.1)
           (let e = c.args.self.now.sized in omega arith)
           (ap (λ (v : SeatView). v.number) view ∙ c.requires.feeder)
           (ap (λ (v : SeatView). lane_at v c.args.place) view ∙ c.requires.idle.0) c.requires.idle.1 c.requires.idle.2

@@ -35,7 +35,7 @@ invariant_of-self-2-clause-marks c = c.set.ensures.length ∙ c.args.self.now.ma
 pub invariant_of-self-2-clause-taken : goal.invariant_of-self-2-clause-taken
 invariant_of-self-2-clause-taken c = λ place below.
     let v = c.args.self.now.seat.seat.me.0 in
-    still_taken v c.take.new.f.seat.me.0 c.args.place place (ap (λ (x : SeatView). x.lanes) c.in-Ok.ensures.took.view) (λ e. omega arith)
+    still_taken v c.take.new.f.seat.me.0 c.args.place place _ (ap (λ (x : SeatView). x.lanes) c.in-Ok.ensures.took.view) (λ e. omega arith)
     ∙ c.args.self.now.taken place (omega arith)
 
 pub returns-clause-board : goal.returns-clause-board
