@@ -1,6 +1,8 @@
 pub mod PicturePlanes
 pub mod Frames
 mod SeenSlots
+mod RunAnswers
+mod RunLists
 mod PictureLists
 mod CompletedSlices
 mod ReleasedPictures

@@ -127,7 +127,7 @@ entries_none p part unsound is none = grind (arith, length-replicate)
 
 -- ---- one more
 
-other_sound : (part : PartPicture) (unsound : List (Option Unsound)) (i k : ℕ) (s : Coefficients)
+pub other_sound : (part : PartPicture) (unsound : List (Option Unsound)) (i k : ℕ) (s : Coefficients)
     → k ≢ i → part_answer (with_slice part i s) unsound k ≡ part_answer part unsound k
 unfolding part_answer
 other_sound part unsound i k s ne = grind (arith, get_or-set_other)

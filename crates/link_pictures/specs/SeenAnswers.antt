@@ -1,10 +1,10 @@
 -- The answers to a picture's slices, by what is kept of them: the coefficients of the sound ones,
 -- and why the others have none.
-use Rattle.std.specs.Prelude.{◌≡◌, ◌==◌, ℕ, Bool, List, length, map, slice_index_or}
-use Rattle.std.specs.Prelude.{Option, Some, None, Ok, Err, if◌then◌else◌}
+use Rattle.std.specs.Prelude.{◌≡◌, ◌==◌, ℕ, Bool, List, [], ◌∷◌, ◌++◌, length, map, slice_index_or}
+use Rattle.std.specs.Prelude.{Option, Some, None, Ok, Err, if◌then◌else◌, is_some}
 use Rattle.std.specs.List.{range_with_len}
 use Rattle.std.specs.Option.{option_map, option_and_then}
-use Rattle.receiver_model.specs.Receptions.{Decoding, PictureAnswers}
+use Rattle.receiver_model.specs.Receptions.{Decoding, PictureAnswers, answers_at, no_answers}
 use Rattle.picture_build.specs.Kept.{PartPicture, slice_that_came}
 use Rattle.vc_types.specs.SameValues.{same_parameters}
 use Rattle.vc_types.specs.Slices.{Coefficients}
@@ -41,6 +41,11 @@ pub record HasEntries (part : PartPicture) (unsound : List (Option Unsound)) : T
 
 abbrev pub is_of_number : ℕ → PictureAnswers → Bool
 is_of_number n a = a.number == n
+
+-- the pictures, and an empty one of this number where there is none
+abbrev pub with_picture : List PictureAnswers → ℕ → Parameters → List PictureAnswers
+with_picture answers n p =
+    if is_some (answers_at answers n) then answers else answers ++ no_answers n p ∷ []
 
 -- those by these parameters, if there are such
 abbrev pub answers_of_plan : Parameters → Option PictureAnswers → Option PictureAnswers

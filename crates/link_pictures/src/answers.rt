@@ -1,13 +1,14 @@
-ghost use Rattle.std.specs.Prelude.{◌≡◌, ◌==◌, [], ℕ, List, None, Some, IfOk};
-ghost use Rattle.std.specs.Prelude.{IfSome, OnOk, is_some, position};
+ghost use Rattle.std.specs.Prelude.{◌≡◌, ◌<◌, ◌==◌, ◌∷◌, [], ℕ, List, None, Some, IfOk};
+ghost use Rattle.std.specs.Prelude.{IfSome, OnOk, is_some, length, position};
 ghost use Rattle.std.specs.Option.{option_and_then, option_copied, option_map, option_map_or};
 ghost use Rattle.receiver_model.specs.Receptions.{PictureAnswers, answer_at, answers_at};
-ghost use Rattle.receiver_model.specs.Receptions.{answers_without, keeps_answer, kept_answer};
+ghost use Rattle.receiver_model.specs.Receptions.{answers_without, keeps_answer, keeps_new, kept_answer};
 ghost use Rattle.receiver_model.specs.Releasing.{answers_by, book_planes};
 ghost use Rattle.receiver_model.specs.WholeBooks.{ArePicturePlanes, IsWholeBook};
 ghost use Rattle.link_pictures.specs.Completing.{IsWholeBySome, IsWholeIfAny, IsWholePlan};
-ghost use Rattle.link_slices.specs.Jobs.{answered};
-ghost use Rattle.link_pictures.specs.SeenAnswers.{answers_of_plan, is_of_number};
+ghost use Rattle.link_slices.specs.Jobs.{answered, answered_run, job_in_run};
+ghost use Rattle.machine_model.specs.Places.{own_answer};
+ghost use Rattle.link_pictures.specs.SeenAnswers.{answers_of_plan, is_of_number, with_picture};
 ghost use Rattle.vc_types.specs.Planes.{planes_in};
 ghost use Rattle.vc_types.specs.SequenceHeader.{Sequence};
 ghost use Rattle.vc_types.specs.TransformParameters.{parameters_of};
@@ -19,7 +20,7 @@ use picture_build::PictureBuilder;
 use std::alloc::Global;
 use std::marker::Model;
 use std::thread::Threads;
-use vc_slice::SliceDone;
+use vc_slice::{RunDone, RunJob, SliceDone};
 use vc_types::{NoMemory, Plan, Plane};
 
 /// The answers to slices of pictures that aren't released. Contracts see, of each picture that has
@@ -89,6 +90,41 @@ impl<H> Answers<H> {
             }
         }
         Ok(())
+    }
+
+    /// Keeps the answers to the slices of a run that have none, as `keep` does. The memory of its strip
+    /// is given back, where it has one.
+    pub fn keep_run(&mut self, done: RunDone) -> Result<Option<Vec<i32>>, NoMemory>
+        ensures value { OnOk result (self.new ≡ keeps_new self.old (answered_run done)) }
+    {
+        let place = self.place_for(&done.job)?;
+        self.pictures[place].keep_run(done)
+    }
+
+    /// Decodes slice number `k` of a run, if it has no answer, and keeps its answer, as `keep` does.
+    pub fn make_slice(&mut self, job: &RunJob, k: usize) -> Result<(), NoMemory>
+        requires { k < length job.now.slices.items }
+        ensures value { OnOk result
+            (self.new ≡ keeps_new self.old (own_answer (job_in_run job.now k) ∷ [])) }
+    {
+        let place = self.place_for(job)?;
+        self.pictures[place].make_slice(job, k)
+    }
+
+    // The place of a run's picture, which is new if there was none.
+    fn place_for(&mut self, job: &RunJob) -> Result<usize, NoMemory>
+        ensures place { IfOk result
+            (λ place. position (is_of_number job.now.number) self.new ≡ Some place) }
+        ensures value { OnOk result (self.new
+            ≡ with_picture self.old job.now.number (parameters_of job.now.plan)) }
+    {
+        if let Some(place) = place_of(&self.pictures, job.number) {
+            return Ok(place);
+        }
+        let spare = self.spare.take();
+        let picture = PictureSlices::new(self.alloc, spare, job.number, job.plan)?;
+        self.pictures.push(picture)?;
+        Ok(self.pictures.len() - 1)
     }
 
     /// Whether there are planes of a picture, which aren't built. Its answers are forgotten, as by

@@ -9,7 +9,7 @@ use Rattle.link_model.specs.declared.outcome.Outcome.{Outcome}
 use Rattle.receiver_model.specs.Entering.{datagram_jobs, opens_session, takes_datagram, datagram_bytes, before_releases, takes_end, end_bytes, gives_up_field}
 use Rattle.receiver_model.specs.Exchanging.{Exchange, all_exchanged, dones_in}
 use Rattle.receiver_model.specs.Judging.{judged, keeps_datagram, session_opened, stands_on, ends_input, is_over}
-use Rattle.receiver_model.specs.Receptions.{Reception, StandingSession, FirstField, SliceOut}
+use Rattle.receiver_model.specs.Receptions.{Reception, StandingSession, FirstField, RunOut}
 use Rattle.receiver_model.specs.Releasing.{next_picture, releases_all, releases_up_to, releases_picture_of, book_count}
 use Rattle.receiver_model.specs.Standing.{AreDecodings}
 use Rattle.receiver_model.specs.WholeBooks.{ArePicturePlanes}
@@ -129,7 +129,7 @@ fails_early stream r d held = ([], tt, GrewBySome-none held (datagram_output str
 
 module _ {a b : Option Told} (old : Reception) {kept exchanged : Reception} (d : List ℕ)
     (jobs : List SliceJob) (k : kept ≡ keeps_datagram old d)
-    (x : Exchanges a b kept exchanged jobs) where
+    (x : Exchanges a b kept exchanged (map job_of jobs)) where
   same : HaveSameSession kept exchanged
   same = calls_session a b kept exchanged x.0 x.1
 
@@ -333,7 +333,7 @@ module _ {a b : Option Told} (old : Reception) {ended exchanged : Reception}
             written = written_at_end;
             decodings = x.1.decodings;
             offered = x.2;
-            asked = λ some. subst (λ (r : List SliceOut). are_asked r (exchanges_of x.0) ≡ true)
+            asked = λ some. subst (λ (r : List RunOut). are_asked r (exchanges_of x.0) ≡ true)
                 (ap (λ (r : Reception). r.out) k)
                 (x.3 (ap (λ (r : Reception). is_some (next_picture r)) k ∙ some));
           },

@@ -1,5 +1,6 @@
 pub mod Exchanges
 pub mod Asked
+pub mod KeptRuns
 pub mod Offered
 pub mod Stays
 pub mod Steps

@@ -1,7 +1,7 @@
 -- Calls of places in which slices go out and come back.
 use Rattle.std.specs.Prelude.{◌≡◌, ℕ, List, Option}
 use Rattle.receiver_model.specs.Exchanging.{all_exchanged, dones_in}
-use Rattle.receiver_model.specs.Receptions.{Reception, SliceOut}
+use Rattle.receiver_model.specs.Receptions.{Reception, RunOut}
 use Rattle.receiver_model.specs.Standing.{AreDecodings}
 use Rattle.link_receiver.specs.HeardLists.{AskedPlaces}
 use Rattle.link_slices.specs.Calls.{PlaceCall, PlacesAreBelow, told_of, exchanges_of}
@@ -18,7 +18,7 @@ pub record IsExchanged (before after : Option Told) (old new : Reception) (calls
 -- Places, by what they tell and their bound, after calls that start no workers: the bound is as it
 -- was, and these slices are out, at places below it.
 pub record KeepsPlaces {P : Type 0} (told : P → Option Told) (bound : P → ℕ) (before after : P)
-    (out : List SliceOut) : Type 0 where
+    (out : List RunOut) : Type 0 where
   pub asked : AskedPlaces (told before) (told after)
   pub same_bound : bound after ≡ bound before
   pub below : PlacesAreBelow (bound after) out

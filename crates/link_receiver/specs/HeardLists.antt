@@ -2,6 +2,7 @@
 -- places told.
 use Rattle.std.specs.Prelude.{◌≡◌, ℕ, ◌≤◌, true, false, List, [], ◌∷◌, ◌++◌, length, drop, map}
 use Rattle.std.specs.Prelude.{Option, Some, None}
+use Rattle.std.specs.List.{flat_map}
 use Rattle.machine_model.specs.Feeders.{Feeder, kept_job}
 use Rattle.link_model.specs.Output.{output_so_far, full_output, is_closed_in}
 use Rattle.machine_model.specs.Places.{Job}
@@ -13,7 +14,7 @@ use Rattle.receiver_model.specs.SlicesOut.{AreOutKept, is_job_out}
 use Rattle.receiver_model.specs.Standing.{StandsFor}
 use Rattle.link_receiver.specs.States.{ReceiverState}
 use Rattle.stream_model.specs.Streams.{stream_so_far, stream_of}
-use Rattle.link_slices.specs.Jobs.{job_of}
+use Rattle.link_slices.specs.Jobs.{jobs_of_run}
 use Rattle.link_pictures.specs.Standing.{StreamsFor}
 use Rattle.link_pictures.specs.Writing.{WrittenStream}
 use Rattle.vc_slice.specs.Asked.{Told, Grows}
@@ -76,7 +77,7 @@ pub record AskedPlaces (old new : Option Told) : Type 0 where
 
 -- the jobs that were offered, in the order of the offers
 abbrev pub told_jobs : Told → List Job
-told_jobs told = map (λ offer. job_of offer.job) told.offered
+told_jobs told = flat_map (λ offer. jobs_of_run offer.job) told.offered
 
 -- what was told of places, where no workers were started and each of these jobs was offered
 pub record OfferedToPlaces (old new : Option Told) (jobs : List Job) : Type 0 where

@@ -4,53 +4,64 @@ use Rattle.std.specs.Prelude.{Option, Some, None}
 use Rattle.std.specs.List.{flat_map, list_any, list_all}
 use Rattle.std.specs.Option.{option_map_or}
 use Rattle.machine_model.specs.Places.{Job}
-use Rattle.receiver_model.specs.Exchanging.{Exchange, Proposed, Fetched}
-use Rattle.receiver_model.specs.Receptions.{SliceOut}
-use Rattle.vc_slice.specs.declared.job.SliceJob.{SliceJob}
+use Rattle.receiver_model.specs.Exchanging.{Exchange, Proposed, Fetched, Withdrawn, Made}
+use Rattle.receiver_model.specs.Receptions.{RunOut}
+use Rattle.link_slices.specs.Jobs.{jobs_of_run}
+use Rattle.vc_slice.specs.declared.run.RunJob.{RunJob}
+use Rattle.vc_slice.specs.declared.run.RunLoad.{RunLoad}
 
 abbrev pub proposed_by : Exchange → List Exchange
-proposed_by (Proposed job place) = Proposed job place ∷ []
+proposed_by (Proposed jobs place) = Proposed jobs place ∷ []
 proposed_by (Fetched place answer) = []
+proposed_by (Withdrawn place) = []
+proposed_by (Made dones) = []
 
--- the offers, with the place that each job has or none, in their order
+-- the offers, with the place that each run has or none, in their order
 abbrev pub proposed_in : List Exchange → List Exchange
 proposed_in exchanges = flat_map proposed_by exchanges
 
--- the job is offered once, or it is handed back and offered a second time
-abbrev pub IsOfferOf : Job → List Exchange → Type 0
-IsOfferOf job offers = ((place : Option ℕ) × (offers ≡ Proposed job place ∷ []))
-    ⊎ ((place : Option ℕ) × (offers ≡ Proposed job None ∷ Proposed job place ∷ []))
+-- the jobs of a run are offered once, or they are handed back and offered a second time
+abbrev pub IsOfferOf : List Job → List Exchange → Type 0
+IsOfferOf jobs offers = ((place : Option ℕ) × (offers ≡ Proposed jobs place ∷ []))
+    ⊎ ((place : Option ℕ) × (offers ≡ Proposed jobs None ∷ Proposed jobs place ∷ []))
 
--- nothing, or the job once
-abbrev pub MayOffer : Job → List Exchange → Type 0
-MayOffer job offers = (offers ≡ []) ⊎ ((place : Option ℕ) × (offers ≡ Proposed job place ∷ []))
+-- nothing, or the run once
+abbrev pub MayOffer : List Job → List Exchange → Type 0
+MayOffer jobs offers = (offers ≡ []) ⊎ ((place : Option ℕ) × (offers ≡ Proposed jobs place ∷ []))
 
--- the job once: it has a place, or it is handed back
-abbrev pub IsOneOffer : Job → Option SliceJob → List Exchange → Type 0
-IsOneOffer job None offers = (place : ℕ) × (offers ≡ Proposed job (Some place) ∷ [])
-IsOneOffer job (Some back) offers = offers ≡ Proposed job None ∷ []
+-- the run once: it has a place, or it is handed back
+abbrev pub IsOneOffer : List Job → Option RunLoad → List Exchange → Type 0
+IsOneOffer jobs None offers = (place : ℕ) × (offers ≡ Proposed jobs (Some place) ∷ [])
+IsOneOffer jobs (Some back) offers = offers ≡ Proposed jobs None ∷ []
 
--- each job in this order, a second time only where it was handed back
+-- each run in this order, a second time only where it was handed back
+abbrev pub AreRunOffers : List RunJob → List Exchange → Type 0
+AreRunOffers [] offers = offers ≡ []
+AreRunOffers (run ∷ runs) offers = (first : List Exchange) × (rest : List Exchange)
+    × IsOfferOf (jobs_of_run run) first × AreRunOffers runs rest × (offers ≡ first ++ rest)
+
+-- these jobs in this order, in some runs
 abbrev pub AreOffersOf : List Job → List Exchange → Type 0
-AreOffersOf [] offers = offers ≡ []
-AreOffersOf (job ∷ jobs) offers = (first : List Exchange) × (rest : List Exchange)
-    × IsOfferOf job first × AreOffersOf jobs rest × (offers ≡ first ++ rest)
+AreOffersOf jobs offers =
+    (runs : List RunJob) × (flat_map jobs_of_run runs ≡ jobs) × AreRunOffers runs offers
 
 abbrev pub asked_by : Exchange → List ℕ
-asked_by (Proposed job place) = []
+asked_by (Proposed jobs place) = []
 asked_by (Fetched place answer) = place ∷ []
+asked_by (Withdrawn place) = place ∷ []
+asked_by (Made dones) = []
 
--- the places that were asked
+-- the places that were asked, or whose run was taken back
 abbrev pub asked_in : List Exchange → List ℕ
 asked_in exchanges = flat_map asked_by exchanges
 
-abbrev pub is_asked : List ℕ → SliceOut → Bool
-is_asked asked slice = list_any (λ place. place == slice.place) asked
+abbrev pub is_asked : List ℕ → RunOut → Bool
+is_asked asked run = list_any (λ place. place == run.place) asked
 
--- the place of each of these slices was asked
-abbrev pub are_asked : List SliceOut → List Exchange → Bool
+-- the place of each of these runs was asked
+abbrev pub are_asked : List RunOut → List Exchange → Bool
 are_asked out exchanges = list_all (is_asked (asked_in exchanges)) out
 
--- the place of the slice at this position was asked, if there is one, and no other
-abbrev pub asked_at : List SliceOut → ℕ → List ℕ
-asked_at out i = option_map_or (λ slice. slice.place ∷ []) (slice_get out i) []
+-- the place of the run at this position was asked, if there is one, and no other
+abbrev pub asked_at : List RunOut → ℕ → List ℕ
+asked_at out i = option_map_or (λ run. run.place ∷ []) (slice_get out i) []

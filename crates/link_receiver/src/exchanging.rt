@@ -1,25 +1,30 @@
-ghost use Rattle.std.specs.Prelude.{◌≡◌, ◌<◌, List, [], true, IfOk, OnOk, is_some};
-ghost use Rattle.std.specs.Prelude.{length, map, IfSome};
+ghost use Rattle.std.specs.Prelude.{◌≡◌, ◌<◌, List, [], true, IfOk, IfSome, OnOk, is_some, length, map};
+ghost use Rattle.std.specs.List.{list_all};
 ghost use Rattle.std.specs.Option.{option_map};
-ghost use Rattle.receiver_model.specs.Exchanging.{is_wanted, takes_done};
+ghost use Rattle.machine_model.specs.Places.{Answered, own_answer};
+ghost use Rattle.receiver_model.specs.Exchanging.{is_own, takes_done, takes_dones};
+ghost use Rattle.receiver_model.specs.Standing.{AreDecodings};
 ghost use Rattle.receiver_model.specs.Releasing.{next_picture};
 ghost use Rattle.link_receiver.specs.Exchanged.{IsExchanged, KeepsPlaces};
 ghost use Rattle.link_receiver.specs.Offers.{AreOffersOf, IsOfferOf, IsOneOffer, MayOffer, proposed_in};
-ghost use Rattle.link_receiver.specs.Offers.{are_asked};
-ghost use Rattle.link_receiver.specs.Offers.{asked_in, asked_at};
+ghost use Rattle.link_receiver.specs.Offers.{are_asked, asked_at, asked_in};
 ghost use Rattle.link_slices.specs.Calls.{PlaceCall, PlacesAreBelow, exchanges_of};
-ghost use Rattle.link_slices.specs.Jobs.{job_of, answered};
+ghost use Rattle.link_slices.specs.Jobs.{answered_run, job_in_run, job_of, jobs_of_run, made_run};
 ghost use Rattle.link_window.specs.Views.{releasable_of};
 
 use crate::reception::Reception;
+use link_slices::runs_of;
 use link_window::Released;
-use vc_slice::{Places, SliceDone, SliceJob};
+use vc_slice::{Places, RunDone, RunJob, RunLoad, SliceJob};
 use vc_types::NoMemory;
+
+// How many rooms for strips are kept.
+const MOST_ROOMS: usize = 256;
 
 #[tactic(auto, using(crate::proofs::Asked::keeps_none, crate::proofs::Asked::keeps_twice))]
 impl<H> Reception<H> {
-    /// Offers jobs to places, and takes back what is decoded: where a job is handed back, and where
-    /// a picture may be released, which is answered.
+    /// Offers slices to places, run by run, and takes back what is decoded: where a run is handed back, and
+    /// where a picture may be released, which is answered.
     pub(crate) fn exchange<P: Places>(
         &mut self,
         jobs: Vec<SliceJob>,
@@ -39,7 +44,8 @@ impl<H> Reception<H> {
         self.take_back(places)
     }
 
-    /// Takes back what is decoded, if a picture may be released, which is answered.
+    /// Takes back what is decoded, if a picture may be released, which is answered; and as long as a run
+    /// waits that nobody decodes, decodes the last of them here.
     pub(crate) fn take_back<P: Places>(
         &mut self,
         places: &mut P,
@@ -58,6 +64,7 @@ impl<H> Reception<H> {
             return Ok(None);
         };
         let _came = self.ask_all(places)?;
+        self.help(places)?;
         Ok(Some(next))
     }
 
@@ -68,68 +75,161 @@ impl<H> Reception<H> {
             × AreOffersOf (map job_of jobs.items) (proposed_in (exchanges_of calls))) }
         ensures places { KeepsPlaces P.told P.bound places.old places.new self.new.out }
     {
+        let runs = runs_of(self.alloc, jobs)?;
         let mut may_come = true;
-        for job in jobs {
-            may_come = self.offer(job, may_come, places)?;
+        for job in runs {
+            let room = self.spare_room();
+            may_come = self.offer(RunLoad { job, room }, may_come, places)?;
         }
         Ok(())
     }
 
-    // Offers a job. Where it is handed back while something may come, each place is asked, and if
-    // something came the job is offered once more. Answers whether something may still come.
+    // Offers a run. Where it is handed back while something may come, each place is asked, and if
+    // something came the run is offered once more. Answers whether something may still come.
     fn offer<P: Places>(
         &mut self,
-        job: SliceJob,
+        load: RunLoad,
         may_come: bool,
         places: &mut P,
     ) -> Result<bool, NoMemory>
         requires below { PlacesAreBelow (P.bound places.old) self.old.out }
         ensures exchanged { OnOk result ((calls : List PlaceCall)
             × IsExchanged (P.told places.old) (P.told places.new) self.old self.new calls
-            × IsOfferOf (job_of job) (proposed_in (exchanges_of calls))) }
+            × IsOfferOf (jobs_of_run load.job) (proposed_in (exchanges_of calls))) }
         ensures places { KeepsPlaces P.told P.bound places.old places.new self.new.out }
     {
-        let Some(job) = self.put(job, places)? else {
+        let Some(load) = self.put(load, places)? else {
             return Ok(may_come);
         };
         if !may_come {
+            self.make(load)?;
             return Ok(false);
         }
-        self.offer_again(job, places)
+        self.offer_again(load, places)
     }
 
-    // Asks each place, and offers a job if something came back. Answers whether something came.
-    fn offer_again<P: Places>(&mut self, job: SliceJob, places: &mut P) -> Result<bool, NoMemory>
+    // Asks each place, and offers a run if something came back. Answers whether something came.
+    fn offer_again<P: Places>(&mut self, load: RunLoad, places: &mut P) -> Result<bool, NoMemory>
         requires below { PlacesAreBelow (P.bound places.old) self.old.out }
         ensures exchanged { OnOk result ((calls : List PlaceCall)
             × IsExchanged (P.told places.old) (P.told places.new) self.old self.new calls
-            × MayOffer (job_of job) (proposed_in (exchanges_of calls))) }
+            × MayOffer (jobs_of_run load.job) (proposed_in (exchanges_of calls))) }
         ensures places { KeepsPlaces P.told P.bound places.old places.new self.new.out }
     {
         if !self.ask_all(places)? {
+            self.make(load)?;
             return Ok(false);
         }
-        let _back = self.put(job, places)?;
+        if let Some(load) = self.put(load, places)? {
+            self.make(load)?;
+        }
         Ok(true)
     }
 
-    // Offers a job once. It may be handed back.
-    fn put<P: Places>(
-        &mut self,
-        job: SliceJob,
-        places: &mut P,
-    ) -> Result<Option<SliceJob>, NoMemory>
+    // Offers a run once. It may be handed back.
+    fn put<P: Places>(&mut self, load: RunLoad, places: &mut P) -> Result<Option<RunLoad>, NoMemory>
         requires below { PlacesAreBelow (P.bound places.old) self.old.out }
         ensures exchanged { IfOk result (λ back. (calls : List PlaceCall)
             × IsExchanged (P.told places.old) (P.told places.new) self.old self.new calls
-            × IsOneOffer (job_of job) back (proposed_in (exchanges_of calls))) }
-        ensures back { IfOk result (λ back. IfSome back (λ same. same ≡ job)) }
+            × IsOneOffer (jobs_of_run load.job) back (proposed_in (exchanges_of calls))) }
+        ensures back { IfOk result (λ back. IfSome back (λ same. same.job ≡ load.job)) }
         ensures places { KeepsPlaces P.told P.bound places.old places.new self.new.out }
     {
-        self.out.offer(job, places)
+        self.out.offer(load, places)
     }
 
-    // Asks the place of each slice that is out. Answers whether something came back.
+    // Decodes a run that found no place, while others are out. Where none is, nobody else decodes, and
+    // each slice is decoded once its picture is released.
+    fn make(&mut self, load: RunLoad) -> Result<(), NoMemory>
+        ensures made { OnOk result ((dones : List Answered) × AreDecodings dones
+            × (self.new ≡ takes_dones self.old dones)) }
+        ensures out { self.new.out ≡ self.old.out }
+    {
+        if self.out.count() > 0 {
+            self.make_own(&load.job)?;
+        }
+        self.keep_room(load.room)
+    }
+
+    // Decodes those slices of a run that are the receiver's own and have no answer.
+    fn make_own(&mut self, job: &RunJob) -> Result<(), NoMemory>
+        ensures made { OnOk result (self.new ≡ takes_dones self.old (made_run job.now)) }
+        ensures out { self.new.out ≡ self.old.out }
+    {
+        for k in 0..job.slices.len() {
+            self.make_slice(job, k)?;
+        }
+        Ok(())
+    }
+
+    // The same of slice number `k`.
+    fn make_slice(&mut self, job: &RunJob, k: usize) -> Result<(), NoMemory>
+        requires { k < length job.now.slices.items }
+        ensures made { OnOk result
+            (self.new ≡ takes_done self.old (own_answer (job_in_run job.now k))) }
+        ensures out { self.new.out ≡ self.old.out }
+    {
+        if self.is_own_slice(job, k) {
+            self.answers.make_slice(job, k)?;
+        }
+        Ok(())
+    }
+
+    fn is_own_slice(&self, job: &RunJob, k: usize) -> bool
+        requires { k < length job.now.slices.items }
+        ensures { result ≡ is_own self.now (job_in_run job.now k) }
+    {
+        match &self.standing {
+            Some(standing) => standing.is_own_slice(job, k),
+            None => false,
+        }
+    }
+
+    // Whether all slices of a run are the receiver's own.
+    fn are_own(&self, job: &RunJob) -> bool
+        ensures { result ≡ true → list_all (is_own self.now) (jobs_of_run job.now) ≡ true }
+    {
+        match &self.standing {
+            Some(standing) => standing.are_own(job),
+            None => false,
+        }
+    }
+
+    // Takes runs back that wait, the last one first, and decodes each; then asks what is decoded by then.
+    fn help<P: Places>(&mut self, places: &mut P) -> Result<(), NoMemory>
+        requires below { PlacesAreBelow (P.bound places.old) self.old.out }
+        ensures exchanged { OnOk result ((calls : List PlaceCall)
+            × IsExchanged (P.told places.old) (P.told places.new) self.old self.new calls
+            × (proposed_in (exchanges_of calls) ≡ [])) }
+        ensures places { KeepsPlaces P.told P.bound places.old places.new self.new.out }
+    {
+        for i in (0..self.out_count()).rev() {
+            self.take_over(i, places)?;
+        }
+        let _came = self.ask_all(places)?;
+        Ok(())
+    }
+
+    // Takes the `i`th run that is out back, if there are so many and nobody decodes it yet, and decodes it.
+    fn take_over<P: Places>(&mut self, i: usize, places: &mut P) -> Result<(), NoMemory>
+        requires below { PlacesAreBelow (P.bound places.old) self.old.out }
+        ensures exchanged { OnOk result ((calls : List PlaceCall)
+            × IsExchanged (P.told places.old) (P.told places.new) self.old self.new calls
+            × (proposed_in (exchanges_of calls) ≡ [])) }
+        ensures places { KeepsPlaces P.told P.bound places.old places.new self.new.out }
+    {
+        if i >= self.out.count() {
+            return Ok(());
+        }
+        let place = self.out.place(i);
+        let Some(RunLoad { job, room }) = self.out.take_back(place, places) else {
+            return Ok(());
+        };
+        self.make_own(&job)?;
+        self.keep_room(room)
+    }
+
+    // Asks the place of each run that is out. Answers whether something came back.
     fn ask_all<P: Places>(&mut self, places: &mut P) -> Result<bool, NoMemory>
         requires below { PlacesAreBelow (P.bound places.old) self.old.out }
         ensures exchanged { OnOk result ((calls : List PlaceCall)
@@ -151,7 +251,7 @@ impl<H> Reception<H> {
         self.out.count()
     }
 
-    // Asks the place of the `i`th slice that is out, if there are so many.
+    // Asks the place of the `i`th run that is out, if there are so many.
     fn ask<P: Places>(&mut self, i: usize, places: &mut P) -> Result<bool, NoMemory>
         requires below { PlacesAreBelow (P.bound places.old) self.old.out }
         ensures exchanged { OnOk result ((calls : List PlaceCall)
@@ -173,25 +273,38 @@ impl<H> Reception<H> {
         }
     }
 
-    // Keeps the answer to a slice, if it is the receiver's own and has none.
-    #[tactic(auto, unfolding(receiver_model::specs::Exchanging::takes_done))]
-    fn accept(&mut self, done: SliceDone) -> Result<(), NoMemory>
-        ensures value { OnOk result (self.new ≡ takes_done self.old (answered done)) }
+    // Keeps the answers to those slices of a run that are the receiver's own and have none.
+    fn accept(&mut self, done: RunDone) -> Result<(), NoMemory>
+        ensures value { OnOk result (self.new ≡ takes_dones self.old (answered_run done)) }
         ensures out { self.new.out ≡ self.old.out }
     {
-        if self.is_wanted(&done) {
-            self.answers.keep(done)?;
+        if !self.are_own(&done.job) {
+            return self.make_own(&done.job);
+        }
+        if let Some(room) = self.answers.keep_run(done)? {
+            self.keep_room(room)?;
         }
         Ok(())
     }
 
-    fn is_wanted(&self, done: &SliceDone) -> bool
-        ensures { result ≡ is_wanted self.now (answered done.now) }
+    // Memory for a strip; it may be too small.
+    fn spare_room(&mut self) -> Vec<i32>
+        ensures unchanged { self.new ≡ self.old }
     {
-        let Some(standing) = &self.standing else {
-            return false;
-        };
-        standing.is_own(&done.job) && !self.answers.has(done.job.number, done.job.index)
+        match self.rooms.pop() {
+            Some(room) => room,
+            None => Vec::new(self.alloc),
+        }
+    }
+
+    // Keeps a strip's memory for other runs.
+    fn keep_room(&mut self, room: Vec<i32>) -> Result<(), NoMemory>
+        ensures unchanged { self.new ≡ self.old }
+    {
+        if self.rooms.len() < MOST_ROOMS {
+            self.rooms.push(room)?;
+        }
+        Ok(())
     }
 
     /// The least picture that is opened and not released, if it may be released.

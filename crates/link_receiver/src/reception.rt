@@ -13,7 +13,7 @@ use crate::kept::Kept;
 use bytes::Bytes;
 use link_model::Tally;
 use link_pictures::{Answers, FrameOutput};
-use link_slices::SlicesOut;
+use link_slices::RunsOut;
 use link_window::{Opening, Standing, hear};
 use std::alloc::Global;
 use std::marker::Model;
@@ -27,7 +27,9 @@ pub(crate) struct Reception<H> {
     pub(crate) standing: Option<Standing>,
     pub(crate) counts: Tally,
     pub(crate) answers: Answers<H>,
-    pub(crate) out: SlicesOut,
+    pub(crate) out: RunsOut,
+    // Memory of strips that came back, for other runs.
+    pub(crate) rooms: Vec<Vec<i32>>,
     pub(crate) field: FrameOutput,
     pub(crate) has_ended: bool,
 }
@@ -58,7 +60,8 @@ impl<H> Reception<H> {
             standing: None,
             counts: Tally::default(),
             answers: Answers::new(alloc, threads),
-            out: SlicesOut::new(alloc),
+            out: RunsOut::new(alloc),
+            rooms: Vec::new(alloc),
             field: FrameOutput::new(alloc),
             has_ended: false,
         }

@@ -3,3 +3,4 @@ pub mod DatagramSteps
 pub mod BroughtJobs
 pub mod WindowJobs
 pub mod BookPlaces
+pub mod OwnRuns

@@ -1,15 +1,16 @@
-ghost use Rattle.std.specs.Prelude.{◌≡◌, IfOk, false, map};
+ghost use Rattle.std.specs.Prelude.{◌≡◌, ◌+◌, ◌<◌, ℕ, IfOk, false, length, map};
 ghost use Rattle.std.specs.Option.{option_map_or};
 ghost use Rattle.machine_model.specs.Feeding.{is_same_job};
 ghost use Rattle.receiver_model.specs.Exchanging.{book_job};
 ghost use Rattle.link_gather.specs.Views.{new_slice_of};
-ghost use Rattle.link_slices.specs.Jobs.{job_of};
+ghost use Rattle.link_slices.specs.Jobs.{job_by, job_in_run, job_of};
 ghost use Rattle.link_window.specs.PictureJobs.{picture_job};
+ghost use Rattle.vc_types.specs.TransformParameters.{parameters_of};
 
 use link_gather::{NewSlice, PictureBook};
 use std::alloc::Global;
-use vc_slice::SliceJob;
-use vc_types::NoMemory;
+use vc_slice::{RunJob, SliceJob};
+use vc_types::{NoMemory, Plan};
 
 /// The jobs of slices of the picture with this number.
 pub(crate) fn jobs_of(
@@ -43,11 +44,34 @@ pub(crate) fn has_job(book: &PictureBook, job: &SliceJob) -> bool
     ensures { result ≡ option_map_or (is_same_job (job_of job.now))
         (book_job book.now job.now.number job.now.index) false }
 {
-    let Some(plan) = book.plan() else {
+    has_slice(book, &job.plan, job.index, job.bytes.as_slice())
+}
+
+/// Whether slice number `k` of a run is one that the picture has: by its plan and its bytes.
+pub(crate) fn has_slice_of(book: &PictureBook, run: &RunJob, k: usize) -> bool
+    requires { k < length run.now.slices.items }
+    ensures { result ≡ option_map_or (is_same_job (job_in_run run.now k))
+        (book_job book.now run.now.number (run.now.first + k)) false }
+{
+    has_slice(
+        book,
+        &run.plan,
+        run.first + k as u32,
+        run.slices[k].as_slice(),
+    )
+}
+
+// Whether the picture has this slice: by this plan and with these bytes.
+fn has_slice(book: &PictureBook, plan: &Plan, index: u32, bytes: &[u8]) -> bool
+    ensures { (number : ℕ) → result ≡ option_map_or
+        (is_same_job (job_by (parameters_of plan.now) number index bytes.now))
+        (book_job book.now number index) false }
+{
+    let Some(own) = book.plan() else {
         return false;
     };
-    let Some(slice) = book.slice(job.index) else {
+    let Some(slice) = book.slice(index) else {
         return false;
     };
-    job.plan.is_same(&plan) && job.bytes.as_slice() == slice.as_slice()
+    plan.is_same(&own) && bytes == slice.as_slice()
 }

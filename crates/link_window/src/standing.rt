@@ -1,4 +1,4 @@
-ghost use Rattle.std.specs.Prelude.{◌≡◌, ◌≤◌, ◌<◌, ◌-◌, ◌^◌, ◌&&◌, ℕ, List, IfOk, IfSome, OnOk};
+ghost use Rattle.std.specs.Prelude.{◌≡◌, ◌≤◌, ◌<◌, ◌+◌, ◌-◌, ◌^◌, ◌&&◌, ℕ, List, IfOk, IfSome, OnOk};
 ghost use Rattle.std.specs.Prelude.{Some, None, true, false, length, map};
 ghost use Rattle.std.specs.Option.{option_copied, option_map, option_map_or};
 ghost use Rattle.machine_model.specs.Feeding.{is_same_job};
@@ -9,19 +9,20 @@ ghost use Rattle.link_model.specs.Windows.{window_enters};
 ghost use Rattle.receiver_model.specs.Exchanging.{offered_jobs, unreleased_job};
 ghost use Rattle.receiver_model.specs.Judging.{is_over};
 ghost use Rattle.receiver_model.specs.WholeBooks.{IsWholeBook};
-ghost use Rattle.link_slices.specs.Jobs.{job_of};
+ghost use Rattle.link_slices.specs.Jobs.{job_in_run, job_of, jobs_of_run};
+ghost use Rattle.std.specs.List.{list_all};
 ghost use Rattle.link_window.specs.Openings.{session_of};
 ghost use Rattle.link_window.specs.Views.{sent_fragment, releasable_of};
 ghost use Rattle.vc_types.specs.SequenceHeader.{coded_header, sequence_of};
 
 use crate::heard::Opening;
-use crate::jobs::{has_job, jobs_of};
+use crate::jobs::{has_job, has_slice_of, jobs_of};
 use crate::{Fragment, Released, Window};
 use link_gather::PictureBook;
 use link_model::Outcome;
 use std::alloc::Global;
 use std::marker::Model;
-use vc_slice::SliceJob;
+use vc_slice::{RunJob, SliceJob};
 use vc_types::{Header, NoMemory};
 
 /// The session that stands: its source and its sequence, whether it has had its end, and its
@@ -210,5 +211,33 @@ impl Standing {
             Some(book) => has_job(book, job),
             None => false,
         }
+    }
+
+    /// The same of slice number `k` of a run.
+    pub fn is_own_slice(&self, run: &RunJob, k: usize) -> bool
+        requires { k < length run.now.slices.items }
+        ensures { result ≡ option_map_or (is_same_job (job_in_run run.now k))
+            (unreleased_job self.now run.now.number (run.now.first + k)) false }
+    {
+        if self.window.is_released(run.number) {
+            return false;
+        }
+        match self.window.book(run.number) {
+            Some(book) => has_slice_of(book, run, k),
+            None => false,
+        }
+    }
+
+    /// The same of all slices of a run.
+    pub fn are_own(&self, run: &RunJob) -> bool
+        ensures { result ≡ list_all (λ job. option_map_or (is_same_job job)
+            (unreleased_job self.now job.number job.index) false) (jobs_of_run run.now) }
+    {
+        for k in 0..run.slices.len() {
+            if !self.is_own_slice(run, k) {
+                return false;
+            }
+        }
+        true
     }
 }

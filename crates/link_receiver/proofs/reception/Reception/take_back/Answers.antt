@@ -1,7 +1,7 @@
 use Rattle.std.proofs.Common.{◌≡◌, ◌∙◌, None, ap, sym}
 use Rattle.std.specs.Option.{option_map}
 use Rattle.receiver_model.specs.Releasing.{next_picture}
-use Rattle.link_receiver.proofs.CallSteps.{calls_session, same_next, takes_nothing}
+use Rattle.link_receiver.proofs.CallSteps.{asks_then, still_next, takes_nothing}
 use Rattle.link_window.specs.Views.{releasable_of}
 use Rattle.link_receiver.proofs.reception.Reception.take_back.Goals as goal
 
@@ -12,14 +12,15 @@ returns-in_default-clause-exchanged g c =
     takes_nothing _ _ none
 
 pub returns-clause-exchanged : goal.returns-clause-exchanged
-returns-clause-exchanged g c =
-    let all = c.in_ok-_came.ensures.exchanged in (all.0, all.1, all.2, λ some. all.3)
+returns-clause-exchanged g c = asks_then _ _ _ _ _ _ c.in_ok-_came.ensures.exchanged
+    c.in_ok-help.ensures.exchanged
 
 pub returns-in_default-clause-next : goal.returns-in_default-clause-next
 returns-in_default-clause-next g c = sym (ap (option_map releasable_of) c.in_default.is) ∙ c.next_release.ensures
 
 pub returns-clause-next : goal.returns-clause-next
 returns-clause-next g c =
-    let all = c.in_ok-_came.ensures.exchanged in
+    let all = asks_then _ _ _ _ _ _ c.in_ok-_came.ensures.exchanged
+    c.in_ok-help.ensures.exchanged in
     sym (ap (option_map releasable_of) c.in-Some.is) ∙ c.next_release.ensures
-    ∙ sym (same_next _ _ (calls_session _ _ _ _ all.0 all.1))
+    ∙ sym (still_next _ _ _ _ all)

@@ -1,0 +1,23 @@
+use Rattle.std.proofs.Common.{◌∙◌, subst, sym}
+use Rattle.receiver_model.specs.Receptions.{Reception}
+use Rattle.link_receiver.proofs.CallSteps.{on_ok}
+use Rattle.link_receiver.proofs.Stays.{below_got}
+use Rattle.link_receiver.proofs.Steps.{takes_over}
+use Rattle.link_receiver.specs.contracts.reception.Reception.{the_view}
+use Rattle.link_slices.specs.Calls.{PlacesAreBelow}
+use Rattle.link_receiver.proofs.reception.Reception.take_over.Goals as goal
+
+pub take_back-requires-clause-place : goal.take_back-requires-clause-place
+take_back-requires-clause-place g c =
+    let below : PlacesAreBelow (g.P.Places.bound c.args.places.now) c.self.inside.out =
+    subst (λ (r : Reception). PlacesAreBelow (g.P.Places.bound c.args.places.now) r.out)
+    (sym c.self.view_is) c.requires.below in
+    below_got _ c.self.inside.out c.args.i c.place-place.result below c.place-place.ensures
+
+pub returns-clause-exchanged : goal.returns-clause-exchanged
+returns-clause-exchanged g c =
+    rw (← c.self.view_is) (on_ok c.keep_room.result _
+    (takes_over (g.P.Places.told c.args.places.now) (g.P.Places.told c.take_back.new.places)
+    (the_view g.row.H c.self.inside) c.take_back.new.self c.keep_room.new.self
+    c.place-place.result c.in-Some.field-0.job c.in-Some.ensures.told c.in-Some.ensures.out
+    (c.keep_room.ensures.unchanged ∙ c.in_ok-make_own.ensures.made)))
