@@ -1,6 +1,6 @@
 -- What is offered by calls of places one after another.
 use Rattle.std.proofs.Common.{◌≡◌, ℕ, false, List, [], ◌∷◌, ◌++◌, refl, Option}
-use Rattle.std.proofs.lemmas.List.{map-append}
+use Rattle.std.proofs.lemmas.Grind.{flat_map-append}
 use Rattle.std.proofs.lemmas.List.Folds.{list_any-append}
 use Rattle.machine_model.specs.Feeding.{is_same_job}
 use Rattle.machine_model.specs.Places.{Job}
@@ -11,7 +11,7 @@ use Rattle.receiver_model.specs.Standing.{StandsForHeard}
 use Rattle.receiver_model.proofs.AllOffered.{none_offered, more_offered}
 use Rattle.link_receiver.proofs.Asked.{grows_none, grows_twice}
 use Rattle.link_receiver.specs.States.{ReceiverState}
-use Rattle.link_slices.specs.Jobs.{job_of}
+use Rattle.link_slices.specs.Jobs.{jobs_of_run}
 use Rattle.cmd_receive.specs.Playouts.{HandsWereOffered}
 use Rattle.vc_slice.specs.Asked.{Told, Offer, nothing_told, told_more}
 use Rattle.link_receiver.specs.HeardLists.{OutputForm, HasHeard, AskedPlaces, OfferedToPlaces, told_jobs}
@@ -36,7 +36,7 @@ all_with_more window hs offered more was n i job is =
     rw (list_any-append (is_same_job job) offered more, was n i job is) refl
 
 told_jobs_more : (a b : Told) → told_jobs (told_more a b) ≡ told_jobs a ++ told_jobs b
-told_jobs_more a b = map-append (λ (offer : Offer). job_of offer.job) a.offered b.offered
+told_jobs_more a b = flat_map-append (λ (offer : Offer). jobs_of_run offer.job) a.offered b.offered
 
 module _ (window : ℕ) (datagrams : List (List ℕ)) (before mid after : Option Told)
     (first : HandsWereOffered window datagrams (record { before = before; after = mid })) where

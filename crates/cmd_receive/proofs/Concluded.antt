@@ -25,11 +25,11 @@ use Rattle.cmd_receive.proofs.HeardWire.{wire_breaks, wire_hears}
 use Rattle.cmd_receive.proofs.Listened.{breaks_at_end, heard_all, heard_part}
 use Rattle.link_hearing.specs.Inputs.{InputEnded, datagrams_in, records_in}
 use Rattle.link_hearing.specs.declared.form.InputForm.{InputForm}
-use Rattle.link_hearing.specs.declared.heard.Heard.{Heard}
+use Rattle.link_hearing.specs.declared.heard.HeardInput.{HeardInput}
 use Rattle.link_hearing.specs.declared.heard.RecordCounts.{RecordCounts}
 use Rattle.cmd_receive.specs.Decoding.{HasGivenWork, InputTaken, StartsWorkers, TakesInput, counted_so, has_failed_input}
 use Rattle.link_hearing.specs.Hearing.{CanGoOn, fault_ending, has_broken}
-use Rattle.cmd_receive.specs.Concluding.{Concludes, with_records}
+use Rattle.cmd_receive.specs.Concluding.{Concludes, with_record_counts}
 use Rattle.cmd_receive.specs.WireInletLaws.{told_between}
 use Rattle.cmd_receive.specs.Playouts.{PlayoutState, BreaksOff, HandsWereOffered, HasEndedSince, Hears, PlaysInput, Stumbles}
 use Rattle.cmd_receive.specs.Receiving.{IsJudged, ReceivesFrom, RecvEnded}
@@ -125,14 +125,14 @@ module _ (form : OutputForm) (window workers : ℕ) (before : Option Told) (x y 
   -- the counts of records change nothing of it
   offers_so : (counts : Option RecordCounts) (answer : Answer)
       → StartsWorkers window workers answer (hands before y) ds
-      → StartsWorkers window workers (with_records counts answer) (hands before y) ds
+      → StartsWorkers window workers (with_record_counts counts answer) (hands before y) ds
   offers_so None answer started = started
   offers_so (Some counts) (Done summary) started = started
   offers_so (Some counts) (Drained summary end) started = started
   offers_so (Some counts) (Stopped end) started = started
   offers_so (Some counts) (WithRecords summary records other end) started = started
 
-  module _ {mid : PlayoutState} (source : InputForm) (packets : ℕ) (input : InputChange) (told : Heard)
+  module _ {mid : PlayoutState} (source : InputForm) (packets : ℕ) (input : InputChange) (told : HeardInput)
       (h : PlaysInput source packets input x mid told) (ended_is : told.ended ≡ heard)
       (is_of : datagrams_in source packets h.given ≡ ds) where
     abbrev Taken : Answer → Type 0
@@ -145,7 +145,7 @@ module _ (form : OutputForm) (window workers : ℕ) (before : Option Told) (x y 
     -- to the end
     done_so : (tally : Tally) → (heard ≡ Ok tt) × HasEndedSince form window x.held x.asked y ds tally
         → (counts : Option RecordCounts) → counts ≡ records_in source packets h.given
-        → Taken (with_records counts (Done (Judged tally)))
+        → Taken (with_record_counts counts (Done (Judged tally)))
     done_so tally c None none = record {
       end = None;
       reading = read_all packets input h (ended_is ∙ c.0);
@@ -165,7 +165,7 @@ module _ (form : OutputForm) (window workers : ℕ) (before : Option Told) (x y 
     drained_so_far : (tally : Tally) (end : Ending) → (heard ≡ Err end) × (has_broken end ≡ false)
         × HasEndedSince form window x.held x.asked y ds tally
         → (counts : Option RecordCounts) → counts ≡ records_in source packets h.given
-        → Taken (with_records counts (Drained (Judged tally) end))
+        → Taken (with_record_counts counts (Drained (Judged tally) end))
     drained_so_far tally end c None none = record {
       end = Some end;
       reading = read_until packets input h end c.1 (ended_is ∙ c.0);
@@ -187,19 +187,19 @@ module _ (form : OutputForm) (window workers : ℕ) (before : Option Told) (x y 
     stopped_so end c = absurd c
 
     stopped_with : (counts : Option RecordCounts) (end : Ending) → Taken (Stopped end)
-        → Taken (with_records counts (Stopped end))
+        → Taken (with_record_counts counts (Stopped end))
     stopped_with None end t = t
     stopped_with (Some counts) end t = t
 
     ended : (answer : Answer) → CameTo form window x y ds heard answer
-        → Taken (with_records told.records answer)
+        → Taken (with_record_counts told.records answer)
     ended (Done (Judged tally)) c = done_so tally c told.records h.counted
     ended (Drained (Judged tally) end) c = drained_so_far tally end c told.records h.counted
     ended (Stopped end) c = stopped_with told.records end (stopped_so end c)
     ended answer c = absurd c
 
     by_counts : (counts : Option RecordCounts) (answer : Answer) → CameTo form window x y ds heard answer
-        → has_failed_input (with_records counts answer) → heard ≡ Err InputFailed
+        → has_failed_input (with_record_counts counts answer) → heard ≡ Err InputFailed
     by_counts None (Drained summary end) c failed =
         let is : end ≡ InputFailed = cc failed in drained_so form window x y ds heard summary end c ∙ ap Err is
     by_counts (Some counts) (Drained summary end) c failed =
@@ -211,7 +211,7 @@ module _ (form : OutputForm) (window workers : ℕ) (before : Option Told) (x y 
     by_counts counts (WithRecords summary records other end) c failed = absurd c
 
     writing_did : (counts : Option RecordCounts) (answer : Answer) → CameTo form window x y ds heard answer
-        → with_records counts answer ≡ Stopped OutputFailed → HasRisen (output x y).faults
+        → with_record_counts counts answer ≡ Stopped OutputFailed → HasRisen (output x y).faults
     writing_did None answer c is = output_did answer c is
     writing_did (Some counts) (Done summary) c is = absurd cc
     writing_did (Some counts) (Drained summary end) c is = absurd cc
@@ -219,7 +219,7 @@ module _ (form : OutputForm) (window workers : ℕ) (before : Option Told) (x y 
     writing_did (Some counts) (WithRecords summary records other end) c is = absurd c
 
     input_taken : (answer : Answer) → CameTo form window x y ds heard answer
-        → TakesInput form window workers packets source (with_records told.records answer) input
+        → TakesInput form window workers packets source (with_record_counts told.records answer) input
         (output x y) (hands before y)
     input_taken answer c = record {
       given = h.given;
@@ -277,10 +277,10 @@ module _ (form : OutputForm) (window workers : ℕ) (before : Option Told) (x y 
 
 -- all of an input was taken
 pub took_input : (form : OutputForm) (window workers packets : ℕ) (source : InputForm) (input : InputChange)
-    (before : Option Told) (x mid y : PlayoutState) (told : Heard) (answer : Answer)
+    (before : Option Told) (x mid y : PlayoutState) (told : HeardInput) (answer : Answer)
     → HasHeard form x.receiver window [] → Grows before x.asked (starting workers (Ok tt))
     → PlaysInput source packets input x mid told → Concludes mid y told.ended answer
-    → TakesInput form window workers packets source (with_records told.records answer) input
+    → TakesInput form window workers packets source (with_record_counts told.records answer) input
     (output x y) (hands before y)
 took_input form window workers packets source input before x mid y told answer new grew h c =
     input_taken form window workers before x y (datagrams_in source packets h.given) told.ended new grew source

@@ -7,7 +7,7 @@ use Rattle.vc_ports.specs.Changes.{InputChange}
 use Rattle.link_hearing.specs.Hearing.{fault_ending}
 use Rattle.link_hearing.specs.Inputs.{HeardSo, InputEnded, datagrams_in}
 use Rattle.link_hearing.specs.declared.form.InputForm.{InputForm}
-use Rattle.link_hearing.specs.declared.heard.Heard.{Heard}
+use Rattle.link_hearing.specs.declared.heard.HeardInput.{HeardInput}
 use Rattle.cmd_receive.specs.Playouts.{PlayoutState, BreaksOff, Hears, IsWell, PlaysInput}
 
 -- no slice is out at a place that isn't there
@@ -21,7 +21,7 @@ module _ (input : InputChange) (x y : PlayoutState) (ds : List (List ℕ)) (ende
   stays_well (Err OutputFailed) so = so.0.goes.well w
   stays_well (Err end) so = so.0.goes.well w
 
-pub plays_well : (form : InputForm) (packets : ℕ) (input : InputChange) (x y : PlayoutState) (told : Heard)
+pub plays_well : (form : InputForm) (packets : ℕ) (input : InputChange) (x y : PlayoutState) (told : HeardInput)
     → PlaysInput form packets input x y told → IsWell x → IsWell y
 plays_well form packets input x y told h w = stays_well input x y (datagrams_in form packets h.given)
     (λ end. InputEnded form packets end input h.given) w told.ended h.did

@@ -24,6 +24,6 @@ recorded records other (Done summary) = WithRecords summary records other None
 recorded records other (Drained summary end) = WithRecords summary records other (Some end)
 recorded records other answer = answer
 
-abbrev pub with_records : Option RecordCounts → Answer → Answer
-with_records None answer = answer
-with_records (Some counts) answer = recorded counts.records counts.other answer
+abbrev pub with_record_counts : Option RecordCounts → Answer → Answer
+with_record_counts None answer = answer
+with_record_counts (Some counts) answer = recorded counts.records counts.other answer

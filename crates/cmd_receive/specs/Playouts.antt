@@ -20,7 +20,7 @@ use Rattle.vc_slice.specs.Asked.{Told, Grows}
 use Rattle.link_hearing.specs.Hearing.{fault_ending}
 use Rattle.link_hearing.specs.Inputs.{HearsInput}
 use Rattle.link_hearing.specs.declared.form.InputForm.{InputForm}
-use Rattle.link_hearing.specs.declared.heard.Heard.{Heard}
+use Rattle.link_hearing.specs.declared.heard.HeardInput.{HeardInput}
 use Rattle.link_hearing.specs.declared.listener.ListenerFault.{ListenerFault}
 use Rattle.link_hearing.specs.declared.listener.ListenerFault.TheVariants as faults
 use Rattle.cmd_receive.specs.declared.playout.Playout.{Playout}
@@ -139,7 +139,7 @@ TakesEnd x y (Err fault) = BreaksOff x y [] (fault_ending fault)
 -- ---- an input
 
 -- its datagrams were heard
-abbrev pub PlaysInput : InputForm → ℕ → InputChange → (x y : PlayoutState) → Heard → Type 0
+abbrev pub PlaysInput : InputForm → ℕ → InputChange → (x y : PlayoutState) → HeardInput → Type 0
 PlaysInput form packets input x y told = HearsInput form packets input (Hears x y)
     (λ datagrams fault. BreaksOff x y datagrams (fault_ending fault)) ⊥ told
 

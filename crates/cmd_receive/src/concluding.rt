@@ -1,5 +1,5 @@
 ghost use Rattle.std.specs.Prelude.{◌≡◌};
-ghost use Rattle.cmd_receive.specs.Concluding.{Concludes, recorded, with_records};
+ghost use Rattle.cmd_receive.specs.Concluding.{Concludes, recorded, with_record_counts};
 ghost use Rattle.cmd_receive.specs.Playouts.{IsWell, playout_state};
 
 use crate::playout::Playout;
@@ -34,8 +34,8 @@ pub(crate) fn conclude<H: Threads + Copy, O: Sink, P: Places>(
 }
 
 /// The same answer with the counts of a pcap file's records, where there are such and it counts anything.
-pub(crate) fn with_records(counts: Option<RecordCounts>, answer: Answer) -> Answer
-    ensures { result ≡ with_records counts answer }
+pub(crate) fn with_record_counts(counts: Option<RecordCounts>, answer: Answer) -> Answer
+    ensures { result ≡ with_record_counts counts answer }
 {
     match counts {
         Some(RecordCounts { records, other }) => recorded(records, other, answer),

@@ -4,9 +4,9 @@ ghost use Rattle.vc_ports.specs.Changes.{changed, input_of, output_of};
 ghost use Rattle.cmd_receive.specs.Decoding.{TakesInput, Decodes, Unpacks};
 ghost use Rattle.cmd_receive.specs.Playouts.{IsNew, IsWell, PlaysInput, playout_state};
 
-use crate::concluding::{conclude, with_records};
+use crate::concluding::{conclude, with_record_counts};
 use crate::playout::Playout;
-use link_hearing::{Heard, InputForm, hear_input};
+use link_hearing::{HeardInput, InputForm, hear_input};
 use link_receiver::{Receiver, threads_beside};
 use link_report::{Answer, Ending};
 use std::alloc::Global;
@@ -111,7 +111,7 @@ fn take_input<H: Threads + Copy, S: Source, O: Sink, P: Hands>(
     let mut receiver = receiver;
     let mut playout = Playout::new(&mut receiver, output, hands);
     let heard = play_input(alloc, packets, form, input, &mut playout);
-    with_records(heard.records, conclude(&mut playout, heard.ended))
+    with_record_counts(heard.records, conclude(&mut playout, heard.ended))
 }
 
 // Has a receiver that has heard nothing hear the datagrams of an input.
@@ -121,7 +121,7 @@ fn play_input<H: Threads + Copy, S: Source, O: Sink, P: Places>(
     form: InputForm,
     input: &mut S,
     playout: &mut Playout<H, O, P>,
-) -> Heard
+) -> HeardInput
     requires new { IsNew playout.old.receiver.now }
     ensures borrows_output { playout.new.output.ghost_name ≡ playout.old.output.ghost_name }
     ensures borrows_places { playout.new.places.ghost_name ≡ playout.old.places.ghost_name }

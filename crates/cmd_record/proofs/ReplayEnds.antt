@@ -7,7 +7,7 @@ use Rattle.link_capture.specs.Capture.{entry}
 use Rattle.link_hearing.specs.Capture.{CaptureSplit, HasEnded, ReadingEnded, capture_split}
 use Rattle.link_hearing.specs.Inputs.{HeardSo, HearsInput}
 use Rattle.link_hearing.specs.declared.form.InputForm.TheVariants.{Capture}
-use Rattle.link_hearing.specs.declared.heard.Heard.{Heard}
+use Rattle.link_hearing.specs.declared.heard.HeardInput.{HeardInput}
 use Rattle.link_outside.specs.Outlets.{capture_of}
 use Rattle.link_outside.specs.Passing.{Passes}
 use Rattle.link_report.specs.declared.answer.Answer.{Answer}
@@ -19,7 +19,7 @@ use Rattle.link_report.specs.declared.summary.Summary.TheVariants.{Replayed}
 use Rattle.vc_ports.proofs.Given.{Gave-none}
 use Rattle.vc_ports.specs.Changes.{InputChange, WireChange, HasRisen, Stays, wire_of}
 use Rattle.vc_ports.specs.Wires.{WireTold, aiming}
-use Rattle.cmd_record.specs.Replayers.{ReplayState, BreaksOff, DoesNotPlay, Plays, counts_of, replay_answer, unsent_answer}
+use Rattle.cmd_record.specs.Replayers.{ReplayState, BreaksOff, DoesNotSendAgain, SendsAgain, counts_of, replay_answer, unsent_answer}
 use Rattle.cmd_record.specs.Replaying.{IsReplayed, ReplayEnded, Replays, SentTo, has_failed_input}
 
 -- an entry has two bytes more than its datagram
@@ -33,8 +33,8 @@ capture_length (d ∷ ds) =
 
 module _ (packets : ℕ) (to : List ℕ) (input : InputChange) (told : WireTold) (i : ℕ) (x y : ReplayState)
     (aimed : x.told ≡ aiming told to) (later : i ≤ x.faults) (no_datagrams : x.datagrams ≡ 0) (no_bytes : x.bytes ≡ 0)
-    (small : packets < 2 ^ 32) (heard : Heard)
-    (h : HearsInput Capture packets input (Plays x y) (BreaksOff x y) (2 ^ 32 ≤ y.datagrams) heard) where
+    (small : packets < 2 ^ 32) (heard : HeardInput)
+    (h : HearsInput Capture packets input (SendsAgain x y) (BreaksOff x y) (2 ^ 32 ≤ y.datagrams) heard) where
   abbrev wire : WireChange
   wire = record {
     told = record { before = told; after = y.told };
@@ -45,12 +45,12 @@ module _ (packets : ℕ) (to : List ℕ) (input : InputChange) (told : WireTold)
   s = capture_split packets h.given
 
   abbrev Did : Result (Unit {0}) Ending → Type 0
-  Did did = HeardSo s.datagrams (λ end. ReadingEnded packets end input s) input (Plays x y) (BreaksOff x y) (2 ^ 32 ≤ y.datagrams) did
+  Did did = HeardSo s.datagrams (λ end. ReadingEnded packets end input s) input (SendsAgain x y) (BreaksOff x y) (2 ^ 32 ≤ y.datagrams) did
 
   sent_to : (sent : List (List ℕ)) → Passes x.told y.told sent [] → SentTo to wire sent
   sent_to sent passes = subst (λ (t : WireTold). Passes t y.told sent []) aimed passes
 
-  replayed : (sent : List (List ℕ)) → Plays x y sent → IsReplayed to (counts_of y) wire sent
+  replayed : (sent : List (List ℕ)) → SendsAgain x y sent → IsReplayed to (counts_of y) wire sent
   replayed sent p =
       let count : y.datagrams ≡ length sent = omega (arith, p.datagrams_are, no_datagrams) in
       let bytes : y.bytes ≡ sum_by length sent = omega (arith, p.bytes_are, no_bytes) in
@@ -60,19 +60,19 @@ module _ (packets : ℕ) (to : List ℕ) (input : InputChange) (told : WireTold)
       }
 
   -- a replayer never has enough of so few
-  to_its_end : Plays x y s.datagrams → ReadingEnded packets None input s ⊎ (2 ^ 32 ≤ y.datagrams) → HasEnded input s
+  to_its_end : SendsAgain x y s.datagrams → ReadingEnded packets None input s ⊎ (2 ^ 32 ≤ y.datagrams) → HasEnded input s
   to_its_end p (inl ended) = ended
   to_its_end p (inr enough) = absurd (omega (arith, h.few, p.datagrams_are, no_datagrams, enough, small))
 
-  unsent : (long_at : Option ℕ) → DoesNotPlay long_at x y s.datagrams → ReplayEnded packets to (unsent_answer long_at (counts_of y)) input wire s
+  unsent : (long_at : Option ℕ) → DoesNotSendAgain long_at x y s.datagrams → ReplayEnded packets to (unsent_answer long_at (counts_of y)) input wire s
   unsent None p = inl (record { count = p.count; within = p.within; went = sent_to (take p.count s.datagrams) p.passes })
   unsent (Some place) p = record {
     others = p.others;
     last = p.last;
     datagrams_are = p.are;
     too_long = p.too_long;
-    begins = omega (arith, p.place_is, p.plays.datagrams_are, no_datagrams, p.plays.bytes_are, no_bytes, capture_length p.others);
-    replayed = replayed p.others p.plays;
+    begins = omega (arith, p.place_is, p.sends.datagrams_are, no_datagrams, p.sends.bytes_are, no_bytes, capture_length p.others);
+    replayed = replayed p.others p.sends;
   }
 
   by_result : (did : Result (Unit {0}) Ending) → heard.ended ≡ did → ReplayEnded packets to (replay_answer y did) input wire s
@@ -80,7 +80,7 @@ module _ (packets : ℕ) (to : List ℕ) (input : InputChange) (told : WireTold)
       let d : Did (Ok done) = subst Did is h.did in (to_its_end d.0 d.1, replayed s.datagrams d.0)
   by_result (Err NoMemory) is =
       let p : Did (Err NoMemory) = subst Did is h.did in
-      record { most = p.most; lost = p.lost; datagrams_are = p.are; few = p.few; went = sent_to p.most p.plays.sent.passes }
+      record { most = p.most; lost = p.lost; datagrams_are = p.are; few = p.few; went = sent_to p.most p.sends.sent.passes }
   by_result (Err OutputFailed) is = unsent y.long_at (subst Did is h.did)
   by_result (Err (StreamBad place)) is =
       let d : Did (Err (StreamBad place)) = subst Did is h.did in absurd d.1
@@ -101,7 +101,7 @@ module _ (packets : ℕ) (to : List ℕ) (input : InputChange) (told : WireTold)
   by_input (Err OutputFailed) is failed = absurd (not_input y.long_at (counts_of y) failed.0 failed.1)
   by_input (Err end) is failed = absurd (cc failed.1)
 
-  wire_rose : (long_at : Option ℕ) → DoesNotPlay long_at x y s.datagrams → unsent_answer long_at (counts_of y) ≡ Stopped WireFailed → HasRisen wire.faults
+  wire_rose : (long_at : Option ℕ) → DoesNotSendAgain long_at x y s.datagrams → unsent_answer long_at (counts_of y) ≡ Stopped WireFailed → HasRisen wire.faults
   wire_rose None p is = omega (arith, later, p.rose)
   wire_rose (Some place) p is = absurd cc
 

@@ -8,7 +8,7 @@ use Rattle.link_model.proofs.Hearing.{hears_new, hears_on, sessions_of_more}
 use Rattle.link_model.specs.Session.{Session, HeardSession, just_opened, is_other, opens_next, with_datagram, last_with, hears, sessions_of, begins, ends}
 use Rattle.cmd_record.proofs.Truths.{both_hold, or_false, or_true, stays_so}
 use Rattle.cmd_record.specs.Signs.{IsSign, session_of}
-use Rattle.cmd_record.specs.Watching.{IsLast, Watches, follows, is_open, watch_behind}
+use Rattle.cmd_record.specs.Watching.{IsLatestSession, Watches, may_follow, is_open, watch_behind}
 use Rattle.cmd_record.specs.declared.sign.Opening.{Opening}
 use Rattle.cmd_record.specs.declared.sign.Sign.{Sign}
 use Rattle.cmd_record.specs.declared.sign.Sign.TheVariants.{Begins, Ends, Nothing}
@@ -42,8 +42,8 @@ opens_none : (hs : List HeardSession) → opens_next hs None ≡ None
 opens_none [] = refl
 opens_none (h ∷ hs) = refl
 
-opens_so : (last : Option Opening) (has_ended : Bool) (hs : List HeardSession) (s : Session) → IsLast last has_ended hs
-    → opens_next hs (Some s) ≡ cond (follows last has_ended s) (Some s) None
+opens_so : (last : Option Opening) (has_ended : Bool) (hs : List HeardSession) (s : Session) → IsLatestSession last has_ended hs
+    → opens_next hs (Some s) ≡ cond (may_follow last has_ended s) (Some s) None
 opens_so None has_ended [] s is = refl
 opens_so (Some last) has_ended (h ∷ hs) s is =
     ap (λ (t : Session). cond (h.has_ended && is_other t s) (Some s) None) is.0
@@ -52,23 +52,23 @@ opens_so None has_ended (h ∷ hs) s is = absurd is
 opens_so (Some last) has_ended [] s is = absurd is
 
 module _ (w : SessionWatch) (sessions : ℕ) (some : 0 < w.left) (hs : List HeardSession) (d : List ℕ)
-    (left_are : w.left + ended_in hs ≡ sessions) (last_is : IsLast w.last w.has_ended hs) where
+    (left_are : w.left + ended_in hs ≡ sessions) (last_is : IsLatestSession w.last w.has_ended hs) where
   abbrev Next : SessionWatch → List HeardSession → Type 0
-  Next new now = (new.left + ended_in now ≡ sessions) × IsLast new.last new.has_ended now
+  Next new now = (new.left + ended_in now ≡ sessions) × IsLatestSession new.last new.has_ended now
 
   -- ---- a datagram that begins no session
 
   stays_open : (h : HeardSession) (rest : List HeardSession) → w.left + ended_in (h ∷ rest) ≡ sessions
-      → IsLast w.last w.has_ended (h ∷ rest) → (with_datagram h d).has_ended ≡ h.has_ended
+      → IsLatestSession w.last w.has_ended (h ∷ rest) → (with_datagram h d).has_ended ≡ h.has_ended
       → Next w (with_datagram h d ∷ rest)
   stays_open h rest left is same =
       (ap (λ (n : ℕ). w.left + n) (same_count (with_datagram h d) h rest same) ∙ left, by_last w.last is)
     where
-      by_last : (last : Option Opening) → IsLast last w.has_ended (h ∷ rest) → IsLast last w.has_ended (with_datagram h d ∷ rest)
+      by_last : (last : Option Opening) → IsLatestSession last w.has_ended (h ∷ rest) → IsLatestSession last w.has_ended (with_datagram h d ∷ rest)
       by_last None i = absurd i
       by_last (Some o) i = (i.0, same ∙ i.1)
 
-  no_end : (now : List HeardSession) → w.left + ended_in now ≡ sessions → IsLast w.last w.has_ended now
+  no_end : (now : List HeardSession) → w.left + ended_in now ≡ sessions → IsLatestSession w.last w.has_ended now
       → ((s : Session) → ends s d ≡ false) → Next w (last_with now d)
   no_end [] left is none = (left, is)
   no_end (h ∷ rest) left is none =
@@ -80,7 +80,7 @@ module _ (w : SessionWatch) (sessions : ℕ) (some : 0 < w.left) (hs : List Hear
   -- ---- a sequence header
 
   begun : (o : Opening) → begins d ≡ Some (session_of o) → ((s : Session) → ends s d ≡ false)
-      → (b : Bool) → follows w.last w.has_ended (session_of o) ≡ b
+      → (b : Bool) → may_follow w.last w.has_ended (session_of o) ≡ b
       → Next (cond b (record { left = w.left; last = Some o; has_ended = false }) w) (hears hs d)
   begun o begins_so none true is =
       let opens : opens_next hs (begins d) ≡ Some (session_of o) =
@@ -100,9 +100,9 @@ module _ (w : SessionWatch) (sessions : ℕ) (some : 0 < w.left) (hs : List Hear
     abbrev Closed : List HeardSession → Type 0
     Closed now = Next (record { left = w.left - 1; last = w.last; has_ended = true }) now
 
-    closes : (now : List HeardSession) (last : Option Opening) → w.left + ended_in now ≡ sessions → IsLast last w.has_ended now
+    closes : (now : List HeardSession) (last : Option Opening) → w.left + ended_in now ≡ sessions → IsLatestSession last w.has_ended now
         → is_open last w.has_ended ssrc ≡ true
-        → ((w.left - 1) + ended_in (last_with now d) ≡ sessions) × IsLast last true (last_with now d)
+        → ((w.left - 1) + ended_in (last_with now d) ≡ sessions) × IsLatestSession last true (last_with now d)
     closes now None left is was_so = absurd (false≢true was_so)
     closes [] (Some last) left is was_so = absurd is
     closes (h ∷ rest) (Some last) left is was_so =
@@ -111,9 +111,9 @@ module _ (w : SessionWatch) (sessions : ℕ) (some : 0 < w.left) (hs : List Hear
         let ended : (with_datagram h d).has_ended ≡ true = ap (λ (b : Bool). h.has_ended || b) source ∙ or_true h.has_ended in
         (ended_count (with_datagram h d) h rest w.left sessions some (is.1 ∙ both.1) ended left, (is.0, ended))
 
-    keeps : (now : List HeardSession) (last : Option Opening) → w.left + ended_in now ≡ sessions → IsLast last w.has_ended now
+    keeps : (now : List HeardSession) (last : Option Opening) → w.left + ended_in now ≡ sessions → IsLatestSession last w.has_ended now
         → is_open last w.has_ended ssrc ≡ false
-        → (w.left + ended_in (last_with now d) ≡ sessions) × IsLast last w.has_ended (last_with now d)
+        → (w.left + ended_in (last_with now d) ≡ sessions) × IsLatestSession last w.has_ended (last_with now d)
     keeps [] last left is was_so = (left, is)
     keeps (h ∷ rest) None left is was_so = absurd is
     keeps (h ∷ rest) (Some last) left is was_so =
@@ -132,7 +132,7 @@ module _ (w : SessionWatch) (sessions : ℕ) (some : 0 < w.left) (hs : List Hear
   -- ---- by what it is
 
   by_sign : (sign : Sign) → IsSign d sign → Next (watch_behind w sign) (hears hs d)
-  by_sign (Begins o) i = begun o i.begins_so i.ends_so (follows w.last w.has_ended (session_of o)) refl
+  by_sign (Begins o) i = begun o i.begins_so i.ends_so (may_follow w.last w.has_ended (session_of o)) refl
   by_sign (Ends ssrc) i = ended ssrc i.ends_so i.begins_so (is_open w.last w.has_ended ssrc) refl
   by_sign Nothing i = nothing (ap (opens_next hs) i.begins_so ∙ opens_none hs) i.ends_so
 
@@ -143,5 +143,5 @@ watched w sign d some i sessions before was =
     let next = by_sign w sessions some (sessions_of before) d was.left_are was.last_is sign i in
     record {
       left_are = subst (λ (hs : List HeardSession). (watch_behind w sign).left + ended_in hs ≡ sessions) (sym (sessions_of_more before d)) next.0;
-      last_is = subst (λ (hs : List HeardSession). IsLast (watch_behind w sign).last (watch_behind w sign).has_ended hs) (sym (sessions_of_more before d)) next.1;
+      last_is = subst (λ (hs : List HeardSession). IsLatestSession (watch_behind w sign).last (watch_behind w sign).has_ended hs) (sym (sessions_of_more before d)) next.1;
     }

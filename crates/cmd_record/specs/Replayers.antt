@@ -3,7 +3,7 @@ use Rattle.std.specs.Prelude.{◌≡◌, ◌≤◌, ◌<◌, ◌+◌, ◌*◌, �
 use Rattle.std.specs.Prelude.{Option, Some, None, Result, Ok, Err}
 use Rattle.link_hearing.specs.Inputs.{HearsInput}
 use Rattle.link_hearing.specs.declared.form.InputForm.TheVariants.{Capture}
-use Rattle.link_hearing.specs.declared.heard.Heard.{Heard}
+use Rattle.link_hearing.specs.declared.heard.HeardInput.{HeardInput}
 use Rattle.link_hearing.specs.declared.listener.ListenerFault.{ListenerFault}
 use Rattle.link_hearing.specs.declared.listener.ListenerFault.TheVariants as faults
 use Rattle.link_outside.specs.Outlets.{SentAll, SentPart}
@@ -45,7 +45,7 @@ wire_between x y = record {
 }
 
 -- the wire is aimed, and what it was sent has been short enough
-pub record CanPlay (x : ReplayState) : Type 0 where
+pub record CanSendAgain (x : ReplayState) : Type 0 where
   pub aimed : IsTrue x.told.aimed
   pub room : x.bytes ≤ 65507 * x.datagrams
   pub short : x.long_at ≡ None
@@ -53,37 +53,37 @@ pub record CanPlay (x : ReplayState) : Type 0 where
 -- ---- what its calls do
 
 -- these were sent
-pub record Plays (x y : ReplayState) (datagrams : List (List ℕ)) : Type 0 where
+pub record SendsAgain (x y : ReplayState) (datagrams : List (List ℕ)) : Type 0 where
   pub sent : SentAll (wire_between x y) datagrams
   pub datagrams_are : y.datagrams ≡ x.datagrams + length datagrams
   pub bytes_are : y.bytes ≡ x.bytes + sum_by length datagrams
 
 -- all of these were sent, but perhaps the last
-pub record PlaysMost (x y : ReplayState) (datagrams : List (List ℕ)) : Type 0 where
+pub record SendsMostAgain (x y : ReplayState) (datagrams : List (List ℕ)) : Type 0 where
   pub most : List (List ℕ)
   pub lost : List (List ℕ)
   pub are : datagrams ≡ most ++ lost
   pub few : length lost ≤ 1
-  pub plays : Plays x y most
+  pub sends : SendsAgain x y most
 
 -- the last of these is too long, and its entry begins behind those of the others, which were sent
-pub record PlaysUpTo (place : ℕ) (x y : ReplayState) (datagrams : List (List ℕ)) : Type 0 where
+pub record SendsAgainUpTo (place : ℕ) (x y : ReplayState) (datagrams : List (List ℕ)) : Type 0 where
   pub others : List (List ℕ)
   pub last : List ℕ
   pub are : datagrams ≡ others ++ last ∷ []
   pub too_long : 65507 < length last
-  pub plays : Plays x y others
+  pub sends : SendsAgain x y others
   pub place_is : place ≡ y.bytes + 2 * y.datagrams
 
 -- the wire failed, or one was too long
-abbrev pub DoesNotPlay : Option ℕ → (x y : ReplayState) → List (List ℕ) → Type 0
-DoesNotPlay None x y datagrams = SentPart (wire_between x y) datagrams outlets.Wire
-DoesNotPlay (Some place) x y datagrams = PlaysUpTo place x y datagrams
+abbrev pub DoesNotSendAgain : Option ℕ → (x y : ReplayState) → List (List ℕ) → Type 0
+DoesNotSendAgain None x y datagrams = SentPart (wire_between x y) datagrams outlets.Wire
+DoesNotSendAgain (Some place) x y datagrams = SendsAgainUpTo place x y datagrams
 
 -- by how it broke off: it can hear nothing more
 abbrev pub BreaksOff : (x y : ReplayState) → List (List ℕ) → ListenerFault → Type 0
-BreaksOff x y datagrams faults.NoMemory = PlaysMost x y datagrams
-BreaksOff x y datagrams faults.Output = DoesNotPlay y.long_at x y datagrams
+BreaksOff x y datagrams faults.NoMemory = SendsMostAgain x y datagrams
+BreaksOff x y datagrams faults.Output = DoesNotSendAgain y.long_at x y datagrams
 
 -- ---- what the command makes of it
 
@@ -104,7 +104,7 @@ replay_answer y (Err end) = Drained (counts_of y) end
 -- the datagrams of a capture's entries were heard, at most so many, and the answer is made of that
 pub record PlaysCapture
     (packets : ℕ) (input : InputChange) (x y : ReplayState) (answer : Answer) : Type 0 where
-  pub told : Heard
-  pub heard : HearsInput Capture packets input (Plays x y) (BreaksOff x y)
+  pub told : HeardInput
+  pub heard : HearsInput Capture packets input (SendsAgain x y) (BreaksOff x y)
       (2 ^ 32 ≤ y.datagrams) told
   pub answer_is : answer ≡ replay_answer y told.ended

@@ -1,6 +1,6 @@
 ghost use Rattle.std.proofs.Common.{◌∙◌};
 ghost use Rattle.std.specs.Prelude.{◌≡◌, ◌<◌, ◌≤◌, ◌^◌, None, refl};
-ghost use Rattle.cmd_record.specs.ReplayLaws.{breaks_then, loses_last, more_played, none_played};
+ghost use Rattle.cmd_record.specs.ReplayLaws.{breaks_then, loses_last, more_sent_again, none_sent_again};
 
 use bytes::Bytes;
 use link_hearing::{Listener, ListenerFault};
@@ -80,16 +80,16 @@ fn turn_of(datagram: &[u8]) -> Option<Turn> {
 }
 
 impl<'a, N: Wire, P: Pace> Listener for Replayer<'a, N, P> {
-    ghost use Rattle.cmd_record.specs.Replayers.{BreaksOff, CanPlay, Plays, replay_state};
+    ghost use Rattle.cmd_record.specs.Replayers.{BreaksOff, CanSendAgain, SendsAgain, replay_state};
 
-    ghost is_ready = { λ x. CanPlay (replay_state N.told N.faults x) };
+    ghost is_ready = { λ x. CanSendAgain (replay_state N.told N.faults x) };
 
     ghost wants_one = { λ x. x.datagrams < 2 ^ 32 };
 
     ghost has_enough = { λ x. 2 ^ 32 ≤ x.datagrams };
 
     ghost heard = { λ x y datagrams. (y.wire.ghost_name ≡ x.wire.ghost_name)
-        × Plays (replay_state N.told N.faults x) (replay_state N.told N.faults y) datagrams };
+        × SendsAgain (replay_state N.told N.faults x) (replay_state N.told N.faults y) datagrams };
 
     ghost broke = { λ x y datagrams fault. (y.wire.ghost_name ≡ x.wire.ghost_name)
         × BreaksOff (replay_state N.told N.faults x) (replay_state N.told N.faults y)
@@ -116,10 +116,10 @@ impl<'a, N: Wire, P: Pace> Listener for Replayer<'a, N, P> {
         }
     }
 
-    ghost none = { λ x. (refl, none_played _) };
+    ghost none = { λ x. (refl, none_sent_again _) };
 
     ghost more = { λ x y z first second a b.
-        (b.0 ∙ a.0, more_played _ _ _ first second a.1 b.1) };
+        (b.0 ∙ a.0, more_sent_again _ _ _ first second a.1 b.1) };
 
     ghost breaks_then = { λ x y z first second fault a b.
         (b.0 ∙ a.0, breaks_then _ _ _ first second fault a.1 b.1) };

@@ -1,6 +1,6 @@
 ghost use Rattle.std.specs.Prelude.{◌≡◌};
 ghost use Rattle.vc_ports.specs.Changes.{input_of, wire_of};
-ghost use Rattle.cmd_record.specs.Replayers.{CanPlay, PlaysCapture, replay_answer, replay_state};
+ghost use Rattle.cmd_record.specs.Replayers.{CanSendAgain, PlaysCapture, replay_answer, replay_state};
 ghost use Rattle.cmd_record.specs.Replaying.{Replays};
 
 use crate::replayer::Replayer;
@@ -39,7 +39,7 @@ fn replay_through<S: Source, N: Wire, P: Pace>(
     input: &mut S,
     replayer: &mut Replayer<N, P>,
 ) -> Answer
-    requires ready { CanPlay (replay_state N.told N.faults replayer.old) }
+    requires ready { CanSendAgain (replay_state N.told N.faults replayer.old) }
     requires none { replayer.old.datagrams ≡ 0 }
     ensures borrows { replayer.new.wire.ghost_name ≡ replayer.old.wire.ghost_name }
     ensures plays { PlaysCapture packets (input_of S.left S.faults input.old input.new)

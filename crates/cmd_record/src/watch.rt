@@ -1,6 +1,6 @@
 ghost use Rattle.std.specs.Prelude.{◌≡◌, ◌<◌, ℕ, List, [], ◌∷◌, ◌++◌};
 ghost use Rattle.cmd_record.specs.Signs.{session_of};
-ghost use Rattle.cmd_record.specs.Watching.{Watches, follows, is_open, watch_behind};
+ghost use Rattle.cmd_record.specs.Watching.{Watches, may_follow, is_open, watch_behind};
 
 use crate::sign::{Opening, Sign, sign_of};
 
@@ -60,7 +60,7 @@ impl SessionWatch {
 
     // Whether a sequence header begins the next session, or the first one.
     fn is_followed_by(&self, opening: &Opening) -> bool
-        ensures { result ≡ follows self.now.last self.now.has_ended (session_of opening.now) }
+        ensures { result ≡ may_follow self.now.last self.now.has_ended (session_of opening.now) }
     {
         match &self.last {
             Some(last) => {

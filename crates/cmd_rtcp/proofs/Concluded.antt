@@ -5,7 +5,7 @@ use Rattle.link_hearing.proofs.HeardInputs.{failed_so, read_all, read_until, so_
 use Rattle.link_hearing.specs.Hearing.{CanGoOn, fault_ending, has_broken}
 use Rattle.link_hearing.specs.Inputs.{HeardSo, HearsInput, InputEnded, datagrams_in}
 use Rattle.link_hearing.specs.declared.form.InputForm.{InputForm}
-use Rattle.link_hearing.specs.declared.heard.Heard.{Heard}
+use Rattle.link_hearing.specs.declared.heard.HeardInput.{HeardInput}
 use Rattle.link_hearing.specs.declared.listener.ListenerFault.{ListenerFault}
 use Rattle.link_hearing.specs.declared.listener.ListenerFault.TheVariants as faults
 use Rattle.link_report.specs.declared.ending.Ending.{Ending}
@@ -34,7 +34,7 @@ module _ (form : InputForm) (packets : ℕ) (input : InputChange) (heard : List 
   without_enough ds ended (Err OutputFailed) few so = so
   without_enough ds ended (Err end) few so = so
 
-  pub heard_without : (told : Heard) → HearsInput form packets input heard broke enough told
+  pub heard_without : (told : HeardInput) → HearsInput form packets input heard broke enough told
       → HearsInput form packets input heard broke ⊥ told
   heard_without told h = record {
     given = h.given;
@@ -53,7 +53,7 @@ module _ {S : Type 0} (knows : S → S → List (List ℕ) → Type 0) (due : S 
   -- ---- hearing
 
   module _ (form : InputForm) (packets : ℕ) (small : packets < 2 ^ 32) (input : InputChange)
-      (y : WritingState S) (told : Heard) where
+      (y : WritingState S) (told : HeardInput) where
     counted : (ds : List (List ℕ)) → Hears knows due x y ds → y.datagrams ≡ length ds
     counted ds p = (p.since x.scribe x.held [] at_first).count
 
@@ -78,7 +78,7 @@ module _ {S : Type 0} (knows : S → S → List (List ℕ) → Type 0) (due : S 
   -- ---- the end
 
   module _ (ended : S → S → List (List ℕ) → Type 0) (mid y : WritingState S)
-      (form : InputForm) (packets : ℕ) (input : InputChange) (told : Heard)
+      (form : InputForm) (packets : ℕ) (input : InputChange) (told : HeardInput)
       (h : PutsInput knows due form packets input x mid told) where
     abbrev heard : Result (Unit {0}) Ending
     heard = told.ended

@@ -3,10 +3,11 @@ use Rattle.std.proofs.Common.{◌≡◌, ℕ, ◌+◌, ◌≤◌, List, [], ◌�
 use Rattle.std.specs.Prelude.{Result}
 use Rattle.link_hearing.specs.declared.listener.ListenerFault.{ListenerFault}
 use Rattle.link_hearing.specs.declared.listener.ListenerFault.TheVariants as faults
+use Rattle.link_model.specs.Output.{IsPrefixOf}
 use Rattle.vc_ports.proofs.Growing.{Grew-then, GrewBySome-all, GrewBySome-then}
 use Rattle.vc_ports.specs.Writing.{Grew, GrewBySome}
 use Rattle.vc_types.specs.declared.memory.NoMemory.{NoMemory}
-use Rattle.cmd_rtcp.specs.Due.{Due, BeginsWith}
+use Rattle.cmd_rtcp.specs.Due.{Due}
 use Rattle.cmd_rtcp.specs.Pieces.{WritesPiece, piece_bytes}
 use Rattle.cmd_rtcp.specs.WritingLaws.{part_of, part_of_more}
 use Rattle.cmd_rtcp.specs.Writings.{WritingState, BreaksOff, Drains, Hears, Stumbles, TakesEnd}
@@ -37,9 +38,9 @@ module _ {S : Type 0} (knows ended : S → S → List (List ℕ) → Type 0) (du
     }
 
     module _ (more : (first : S) (heard : List (List ℕ)) (e : List ℕ)
-        → BeginsWith ((due first).so_far (heard ++ e ∷ [])) ((due first).so_far heard))
+        → IsPrefixOf ((due first).so_far heard) ((due first).so_far (heard ++ e ∷ [])))
         (all : (first : S) (heard : List (List ℕ))
-        → BeginsWith ((due first).in_all heard) ((due first).so_far heard)) where
+        → IsPrefixOf ((due first).so_far heard) ((due first).in_all heard)) where
       stumbles_at : (piece : Piece) → Says piece → GrewBySome x.held y.held (piece_bytes piece)
           → Stumbles knows due x y (d ∷ [])
       stumbles_at piece says part = record {
@@ -99,7 +100,7 @@ module _ {S : Type 0} (knows ended : S → S → List (List ℕ) → Type 0) (du
   }
 
   module _ (all : (first : S) (heard : List (List ℕ))
-      → BeginsWith ((due first).in_all heard) ((due first).so_far heard)) where
+      → IsPrefixOf ((due first).so_far heard) ((due first).in_all heard)) where
     silent_at_end : y.held ≡ x.held → Stumbles knows due x y []
     silent_at_end stays = record {
       later = later;

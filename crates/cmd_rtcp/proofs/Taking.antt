@@ -3,7 +3,7 @@ use Rattle.std.proofs.Common.{◌≡◌, ℕ, ◌+◌, ◌%◌, List, [], ◌∷
 use Rattle.std.specs.Prelude.{IfOk, Result}
 use Rattle.link_model.specs.Packets.{RtpPacket, rtp_packet}
 use Rattle.link_outside.specs.Outlets.{capture_of}
-use Rattle.rtcp_reports.specs.Reports.{Reporting, Followed, accepted, followed_from, follows, packets_of, with_packet, with_report}
+use Rattle.rtcp_reports.specs.Reports.{Reporting, Followed, accepted, after_packet, followed_from, packets_of, with_packet, with_report}
 use Rattle.vc_types.specs.declared.memory.NoMemory.{NoMemory}
 use Rattle.cmd_rtcp.specs.Pieces.{piece_bytes}
 use Rattle.cmd_rtcp.specs.Reporters.{HasReported}
@@ -20,15 +20,15 @@ module _ (r : Reporting) (source : ℕ) (f : Followed) (p : RtpPacket) (s : Sour
   -- the number of the packet is a multiple
   pub at_report : (piece : Piece) → (f.packets + 1) % r.every ≡ 0
       → Makes s source (with_packet f p) (with_report r source (with_packet f p)) piece
-      → Makes s source f (follows r source f p) piece
-  unfolding follows
+      → Makes s source f (after_packet r source f p) piece
+  unfolding after_packet
   at_report piece zero m =
       rw (eq-eqb ((f.packets + 1) % r.every) 0 zero) (record { kept = m.kept; made = m.made })
 
   -- and isn't
   pub no_report : ((f.packets + 1) % r.every ≡ 0 → ⊥) → IsKept s source (with_packet f p)
-      → Makes s source f (follows r source f p) Nothing
-  unfolding follows
+      → Makes s source f (after_packet r source f p) Nothing
+  unfolding after_packet
   no_report other k =
       rw (ne_eqb ((f.packets + 1) % r.every) 0 other)
       (record { kept = k; made = sym (append-nil (capture_of f.reports)) })
@@ -38,7 +38,7 @@ module _ (r : Reporting) (p : RtpPacket) (old mid : Source)
   -- it was counted, and a report was made
   pub reported : (new : Source) (result : Result Piece NoMemory) → mid.packets % r.every ≡ 0
       → IfOk result (λ piece. (source : ℕ) (f : Followed) → IsKept mid source f → Makes new source f (with_report r source f) piece)
-      → IfOk result (λ piece. (source : ℕ) (f : Followed) → IsKept old source f → Makes new source f (follows r source f p) piece)
+      → IfOk result (λ piece. (source : ℕ) (f : Followed) → IsKept old source f → Makes new source f (after_packet r source f p) piece)
   reported new (Ok piece) zero makes = λ source f k.
       let now = kept source f k in
       at_report r source f p new piece (ap (λ (n : ℕ). n % r.every) (sym now.packets) ∙ zero)
@@ -47,7 +47,7 @@ module _ (r : Reporting) (p : RtpPacket) (old mid : Source)
 
   -- and none was
   pub unreported : (mid.packets % r.every ≡ 0 → ⊥) → (source : ℕ) (f : Followed) → IsKept old source f
-      → Makes mid source f (follows r source f p) Nothing
+      → Makes mid source f (after_packet r source f p) Nothing
   unreported other source f k =
       let now = kept source f k in
       no_report r source f p mid (λ zero. other (ap (λ (n : ℕ). n % r.every) now.packets ∙ zero)) now
@@ -90,7 +90,7 @@ module _ (r : Reporting) where
     pub next : (packets : List RtpPacket) (now : Source) (piece : Piece)
         → KeepsSource r (Some s) packets n → s.ssrc ≡ p.ssrc
         → (IsWithin s n → IsWithin now (n + 1))
-        → ((source : ℕ) (f : Followed) → IsKept s source f → Makes now source f (follows r source f p) piece)
+        → ((source : ℕ) (f : Followed) → IsKept s source f → Makes now source f (after_packet r source f p) piece)
         → MakesNext r packets (Some p) (n + 1) (Some now) piece
     next [] now piece k own within makes = absurd k
     next (q ∷ qs) now piece k own within makes =
@@ -104,7 +104,7 @@ module _ (r : Reporting) where
 
   -- it is the first
   pub begun : (p : RtpPacket) (n : ℕ) (now : Source) (piece : Piece) → IsWithin now 1
-      → Makes now p.ssrc (followed_from p) (follows r p.ssrc (followed_from p) p) piece
+      → Makes now p.ssrc (followed_from p) (after_packet r p.ssrc (followed_from p) p) piece
       → MakesNext r [] (Some p) (n + 1) (Some now) piece
   begun p n now piece w m = record {
     keeps = (

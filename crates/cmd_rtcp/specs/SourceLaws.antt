@@ -7,7 +7,7 @@ use Rattle.std.proofs.lemmas.List.Elements.{filter-append, filter_map-append}
 use Rattle.std.proofs.lemmas.List.Sums.{fold-append}
 use Rattle.link_model.specs.Packets.{RtpPacket, rtp_packet}
 use Rattle.rtcp_reports.specs.Reports.{Reporting, Followed, accepted, with_last_report, followed_from}
-use Rattle.rtcp_reports.specs.Reports.{follows, packets_of, packets_of_first, report_on, with_packet}
+use Rattle.rtcp_reports.specs.Reports.{after_packet, packets_of, packets_of_first, report_on, with_packet}
 use Rattle.rtcp_reports.specs.Reports.{with_report}
 use Rattle.cmd_rtcp.specs.Sources.{followed_behind, packets_with}
 
@@ -56,12 +56,12 @@ packets_more ds d =
 -- ---- what is known
 
 pub follow_more : (r : Reporting) (q : RtpPacket) (qs : List RtpPacket) (p : RtpPacket)
-    → followed_behind r q (qs ++ p ∷ []) ≡ follows r q.ssrc (followed_behind r q qs) p
-follow_more r q qs p = fold-append (follows r q.ssrc) _ (q ∷ qs) (p ∷ [])
+    → followed_behind r q (qs ++ p ∷ []) ≡ after_packet r q.ssrc (followed_behind r q qs) p
+follow_more r q qs p = fold-append (after_packet r q.ssrc) _ (q ∷ qs) (p ∷ [])
 
 module _ (r : Reporting) (source : ℕ) where
-  one_packet : (f : Followed) (p : RtpPacket) → (follows r source f p).packets ≡ f.packets + 1
-  unfolding follows
+  one_packet : (f : Followed) (p : RtpPacket) → (after_packet r source f p).packets ≡ f.packets + 1
+  unfolding after_packet
   one_packet f p = by_test ((f.packets + 1) % r.every == 0)
     where
       by_test : (made : Bool) → (if made then with_report r source (with_packet f p)
@@ -70,10 +70,10 @@ module _ (r : Reporting) (source : ℕ) where
       by_test false = refl
 
   packets_all : (f : Followed) (ps : List RtpPacket)
-      → (fold (follows r source) f ps).packets ≡ f.packets + length ps
+      → (fold (after_packet r source) f ps).packets ≡ f.packets + length ps
   packets_all f [] = omega arith
   packets_all f (p ∷ ps) =
-      let rest = packets_all (follows r source f p) ps in omega (arith, rest, one_packet f p)
+      let rest = packets_all (after_packet r source f p) ps in omega (arith, rest, one_packet f p)
 
 -- as many as came
 pub packets_counted : (r : Reporting) (p : RtpPacket) (ps : List RtpPacket)
@@ -87,9 +87,10 @@ abbrev pub Extends : List (List ℕ) → List (List ℕ) → Type 0
 Extends whole front = (rest : List (List ℕ)) × (whole ≡ front ++ rest)
 
 module _ (r : Reporting) (source : ℕ) where
-  pub follows_extends : (f : Followed) (p : RtpPacket) → Extends (follows r source f p).reports f.reports
-  unfolding follows
-  follows_extends f p = by_test ((f.packets + 1) % r.every == 0)
+  pub after_packet_extends : (f : Followed) (p : RtpPacket)
+      → Extends (after_packet r source f p).reports f.reports
+  unfolding after_packet
+  after_packet_extends f p = by_test ((f.packets + 1) % r.every == 0)
     where
       by_test : (made : Bool) → Extends (if made then with_report r source (with_packet f p)
           else with_packet f p).reports f.reports

@@ -3,7 +3,7 @@ use Rattle.std.specs.Prelude.{◌≡◌, ◌≤◌, ℕ, ◌%◌, ◌^◌, List,
 use Rattle.std.specs.Prelude.{◌==◌, if◌then◌else◌}
 use Rattle.link_model.specs.Packets.{RtpPacket}
 use Rattle.link_outside.specs.Outlets.{capture_of}
-use Rattle.rtcp_reports.specs.Reports.{Reporting, Followed, followed_from, follows}
+use Rattle.rtcp_reports.specs.Reports.{Reporting, Followed, after_packet, followed_from}
 use Rattle.rtcp_reports.specs.Rtcp.{IsName, receiver_compound, sender_compound}
 use Rattle.rtcp_reports.specs.declared.block.Block.{Block}
 use Rattle.rtcp_reports.specs.declared.block.SenderInfo.{SenderInfo}
@@ -70,7 +70,7 @@ compound_by r info block =
 
 -- what is known of the source of the first packet
 abbrev pub followed_behind : Reporting → RtpPacket → List RtpPacket → Followed
-followed_behind r p ps = fold (follows r p.ssrc) (followed_from p) (p ∷ ps)
+followed_behind r p ps = fold (after_packet r p.ssrc) (followed_from p) (p ∷ ps)
 
 -- the reports that were made so far
 abbrev pub reports_so_far : Reporting → List RtpPacket → List (List ℕ)

@@ -3,9 +3,10 @@ use Rattle.std.proofs.Common.{ℕ, ◌≤◌, List, [], ◌∷◌, ◌++◌, len
 use Rattle.std.proofs.Common.{append-nil, append_assoc}
 use Rattle.link_hearing.specs.declared.listener.ListenerFault.{ListenerFault}
 use Rattle.link_hearing.specs.declared.listener.ListenerFault.TheVariants.{NoMemory, Output}
+use Rattle.link_model.specs.Output.{IsPrefixOf}
 use Rattle.vc_ports.proofs.Growing.{GrewBySome-all, GrewBySome-front}
 use Rattle.vc_ports.specs.Writing.{GrewBySome}
-use Rattle.cmd_rtcp.specs.Due.{Due, BeginsWith}
+use Rattle.cmd_rtcp.specs.Due.{Due}
 use Rattle.cmd_rtcp.specs.Writings.{WritingState, BreaksOff, Hears, Stumbles}
 
 module _ {S : Type 0} (knows : S → S → List (List ℕ) → Type 0) (due : S → Due) where
@@ -39,7 +40,7 @@ module _ {S : Type 0} (knows : S → S → List (List ℕ) → Type 0) (due : S 
 -- ---- a part of what is due
 
 -- a part of the front is a part of the whole
-pub part_of : (before after : Option (List ℕ)) (bytes front : List ℕ) → BeginsWith bytes front
+pub part_of : (before after : Option (List ℕ)) (bytes front : List ℕ) → IsPrefixOf front bytes
     → GrewBySome before after front → GrewBySome before after bytes
 part_of before after bytes front begins grew =
     subst (λ (l : List ℕ). GrewBySome before after l) (sym begins.1)
@@ -47,9 +48,9 @@ part_of before after bytes front begins grew =
 
 module _ {S : Type 0} (knows : S → S → List (List ℕ) → Type 0) (due : S → Due)
     (more : (first : S) (heard : List (List ℕ)) (d : List ℕ)
-    → BeginsWith ((due first).so_far (heard ++ d ∷ [])) ((due first).so_far heard))
+    → IsPrefixOf ((due first).so_far heard) ((due first).so_far (heard ++ d ∷ [])))
     (all : (first : S) (heard : List (List ℕ))
-    → BeginsWith ((due first).in_all heard) ((due first).so_far heard)) where
+    → IsPrefixOf ((due first).so_far heard) ((due first).in_all heard)) where
   -- what is due so far is a part of all that is due with a datagram more
   pub part_of_more : (first : S) (before after : Option (List ℕ)) (ds : List (List ℕ)) (d : List ℕ)
       → GrewBySome before after ((due first).so_far ds)

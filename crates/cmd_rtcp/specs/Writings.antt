@@ -5,7 +5,7 @@ use Rattle.std.specs.Prelude.{Option, Result, Ok, Err}
 use Rattle.link_hearing.specs.Hearing.{CanGoOn, fault_ending, has_broken}
 use Rattle.link_hearing.specs.Inputs.{HearsInput}
 use Rattle.link_hearing.specs.declared.form.InputForm.{InputForm}
-use Rattle.link_hearing.specs.declared.heard.Heard.{Heard}
+use Rattle.link_hearing.specs.declared.heard.HeardInput.{HeardInput}
 use Rattle.link_hearing.specs.declared.listener.ListenerFault.{ListenerFault}
 use Rattle.link_hearing.specs.declared.listener.ListenerFault.TheVariants.{NoMemory, Output}
 use Rattle.link_report.specs.declared.ending.Ending.{Ending}
@@ -107,7 +107,7 @@ TakesEnd knows ended due x y (Err fault) = BreaksOff knows due x y [] fault
 
 -- its datagrams were heard
 abbrev pub PutsInput : {S : Type 0} → (knows : S → S → List (List ℕ) → Type 0) → (due : S → Due)
-    → InputForm → ℕ → InputChange → (x y : WritingState S) → Heard → Type 0
+    → InputForm → ℕ → InputChange → (x y : WritingState S) → HeardInput → Type 0
 PutsInput knows due form packets input x y told =
     HearsInput form packets input (Hears knows due x y) (BreaksOff knows due x y) ⊥ told
 

@@ -6,7 +6,7 @@ ghost use Rattle.cmd_rtcp.specs.Writings.{CanHear, Concludes, PutsInput, writing
 
 use crate::scribe::Scribe;
 use crate::writing::Writing;
-use link_hearing::{Heard, InputForm, has_broken, hear_input};
+use link_hearing::{HeardInput, InputForm, has_broken, hear_input};
 use link_report::Ending;
 use std::alloc::Global;
 use vc_ports::{Sink, Source};
@@ -40,7 +40,7 @@ fn hear_datagrams<I: Source, O: Sink, S: Scribe>(
     packets: u32,
     input: &mut I,
     writing: &mut Writing<S, O>,
-) -> Heard
+) -> HeardInput
     requires none { writing.old.datagrams ≡ 0 }
     requires new { S.has_heard writing.old.scribe.now writing.old.scribe.now [] }
     ensures borrows_scribe { writing.new.scribe.ghost_name ≡ writing.old.scribe.ghost_name }

@@ -6,7 +6,8 @@ use vc_types::NoMemory;
 /// What has something to write for datagrams that come one after another, and at their end. Its facts speak
 /// of what it was at first, before any datagram, and of what it is now.
 pub(crate) trait Scribe {
-    ghost use Rattle.cmd_rtcp.specs.Due.{Due, BeginsWith};
+    ghost use Rattle.link_model.specs.Output.{IsPrefixOf};
+    ghost use Rattle.cmd_rtcp.specs.Due.{Due};
     ghost use Rattle.cmd_rtcp.specs.Pieces.{EntryFits, piece_bytes};
 
     /// It has heard these datagrams.
@@ -42,9 +43,9 @@ pub(crate) trait Scribe {
 
     // What is due of datagrams is due of one more.
     ghost more: { (first : Self) (heard : List (List ℕ)) (datagram : List ℕ)
-        → BeginsWith ((due first).so_far (heard ++ datagram ∷ [])) ((due first).so_far heard) };
+        → IsPrefixOf ((due first).so_far heard) ((due first).so_far (heard ++ datagram ∷ [])) };
 
     // It is due of them all.
     ghost all: { (first : Self) (heard : List (List ℕ))
-        → BeginsWith ((due first).in_all heard) ((due first).so_far heard) };
+        → IsPrefixOf ((due first).so_far heard) ((due first).in_all heard) };
 }

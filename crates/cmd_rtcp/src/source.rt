@@ -1,6 +1,6 @@
 ghost use Rattle.std.specs.Prelude.{◌≡◌, ◌≤◌, ◌<◌, ◌+◌, ◌-◌, ◌%◌, ◌^◌, ℕ, length, IfOk, OnOk, option_copied};
 ghost use Rattle.rtcp_reports.specs.Reports.{Followed, block_on, with_last_report, followed_from};
-ghost use Rattle.rtcp_reports.specs.Reports.{follows, with_packet, with_report};
+ghost use Rattle.rtcp_reports.specs.Reports.{after_packet, with_packet, with_report};
 ghost use Rattle.rtcp_reports.specs.Rtcp.{LossFitsIn};
 ghost use Rattle.rtcp_reports.specs.Tracks.{reported};
 ghost use Rattle.rtp_head.specs.Views.{packet_of};
@@ -63,7 +63,7 @@ impl Source {
         ensures within { OnOk result ((n : ℕ) → IsWithin self.old n → IsWithin self.new (n + 1)) }
         ensures makes { IfOk result (λ piece. (source : ℕ) (f : Followed) → IsKept self.old source f
             → Makes self.new source f
-            (follows (reporting_of settings.now) source f (packet_of packet.now)) piece) }
+            (after_packet (reporting_of settings.now) source f (packet_of packet.now)) piece) }
     {
         self.count(packet);
         if self.packets % u64::from(settings.every) == 0 {

@@ -22,7 +22,7 @@ use Rattle.cmd_send.specs.FramesSent.{bytes_in}
 use Rattle.link_outside.specs.Outlets.{capture_of}
 use Rattle.cmd_stream.specs.Counted.{counted_in_64}
 use Rattle.cmd_stream.specs.PlayEndings.{reading_ended}
-use Rattle.cmd_stream.specs.Playing.{IsLast, UnitSplit}
+use Rattle.cmd_stream.specs.Playing.{StopsReading, UnitSplit}
 use Rattle.stream_model.specs.Packed.{BadUnit, PackFault, PackStream, PackedSoFar, PartTooLarge, packed_behind, packs_unit, pictures_packed, stream_packed, units_packed, whole_packed}
 use Rattle.cmd_stream.specs.declared.pack_fault.UnitRefusal.{UnitRefusal}
 use Rattle.cmd_stream.specs.declared.pack_fault.UnitRefusal.TheVariants as taking
@@ -92,7 +92,7 @@ module _ (s : Packing) (packets number : ℕ) (input : InputChange) (output : Ou
         (record { limit_is = refl; count = at.count ∙ enough; goes_on = at.goes_on; one_more = one; all = accepted; wrote = wrote })
 
     module _ (room : number < packets) where
-      bad : (fault : UnitFault) (rest : List ℕ) → Gave mid input.left.after rest → data_unit rest ≡ Err fault → IsLast input rest fault → StopsPacking s packets (Err (StreamBad h.place)) input output
+      bad : (fault : UnitFault) (rest : List ℕ) → Gave mid input.left.after rest → data_unit rest ≡ Err fault → StopsReading input rest fault → StopsPacking s packets (Err (StreamBad h.place)) input output
       bad fault rest gave refused last =
           stopped (Err (StreamBad h.place)) rest (at.units, rest) gave (before_rest fault rest refused)
           (record {
@@ -101,7 +101,7 @@ module _ (s : Packing) (packets number : ℕ) (input : InputChange) (output : Ou
             wrote = wrote;
           })
 
-      refused_info : (fault : UnitFault) (gave : GaveRefused mid input.left.after fault) → IsLast input gave.bytes fault → StopsPacking s packets (Err (StreamBad h.place)) input output
+      refused_info : (fault : UnitFault) (gave : GaveRefused mid input.left.after fault) → StopsReading input gave.bytes fault → StopsPacking s packets (Err (StreamBad h.place)) input output
       refused_info fault gave last = bad fault gave.bytes gave.gave (rw append-nil at (gave.refused [])) last
 
       -- a unit isn't read

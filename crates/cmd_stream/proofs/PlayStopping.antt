@@ -21,7 +21,7 @@ use Rattle.cmd_stream.specs.declared.play_fault.TakeFault.{TakeFault}
 use Rattle.cmd_stream.specs.declared.play_fault.TakeFault.TheVariants as taking
 use Rattle.cmd_stream.specs.PlayEndings.{reading_ended, taking_ended}
 use Rattle.cmd_stream.specs.PlayLooping.{PlayIsBehind, UnitsHaveEnded, PlayStops}
-use Rattle.cmd_stream.specs.Playing.{UnitSplit, IsLast, PlayEnded, Plays}
+use Rattle.cmd_stream.specs.Playing.{UnitSplit, StopsReading, PlayEnded, Plays}
 use Rattle.cmd_stream.specs.PlaySteps.{PlayState}
 use Rattle.cmd_stream.specs.Stream.{StreamSoFar, Stream, units_taken, takes, after_unit, played, pictures_in, frames_in, unpaired_in}
 use Rattle.cmd_stream.specs.Taking.{BringsDue, Brought}
@@ -75,7 +75,7 @@ module _ (packets number : ℕ) (input : InputChange) (output : OutputChange) (m
         (record { limit_is = refl; count = at.count ∙ enough; goes_on = at.goes_on; one_more = one; accepted = accepted; wrote = wrote })
 
     module _ (room : number < packets) where
-      bad : (fault : UnitFault) (rest : List ℕ) → Gave mid input.left.after rest → data_unit rest ≡ Err fault → IsLast input rest fault → PlayStops packets (Err (StreamBad h.place)) input output
+      bad : (fault : UnitFault) (rest : List ℕ) → Gave mid input.left.after rest → data_unit rest ≡ Err fault → StopsReading input rest fault → PlayStops packets (Err (StreamBad h.place)) input output
       bad fault rest gave refused last =
           stopped (Err (StreamBad h.place)) rest (at.units, rest) gave (before_rest fault rest refused)
           (record {
@@ -84,7 +84,7 @@ module _ (packets number : ℕ) (input : InputChange) (output : OutputChange) (m
             wrote = wrote;
           })
 
-      refused_info : (fault : UnitFault) (gave : GaveRefused mid input.left.after fault) → IsLast input gave.bytes fault → PlayStops packets (Err (StreamBad h.place)) input output
+      refused_info : (fault : UnitFault) (gave : GaveRefused mid input.left.after fault) → StopsReading input gave.bytes fault → PlayStops packets (Err (StreamBad h.place)) input output
       refused_info fault gave last = bad fault gave.bytes gave.gave (rw append-nil at (gave.refused [])) last
 
       -- a unit isn't read

@@ -2,7 +2,7 @@
 use Rattle.std.proofs.Common.{◌≡◌, ◌⊎◌, ℕ, ◌+◌, List, [], ◌∷◌, ◌++◌, length, length-append, append-nil, Some, Err, inl, inr, refl, sym, ap, ◌∙◌, arith}
 use Rattle.std.specs.Prelude.{◌≢◌, IsTrue, IsFalse}
 use Rattle.std.proofs.lemmas.Grind.{common_steps}
-use Rattle.cmd_stream.specs.Playing.{UnitSplit, unit_split, has_ended, IsLast}
+use Rattle.cmd_stream.specs.Playing.{UnitSplit, unit_split, has_ended, StopsReading}
 use Rattle.vc_ports.specs.Changes.{InputChange}
 use Rattle.vc_units.proofs.Behind.{NoneBehind, data_unit-bad, units_within-rest}
 use Rattle.vc_units.specs.Units.{data_unit, units_within}
@@ -37,6 +37,6 @@ module _ (packets : ℕ) (given more : List ℕ) (ended : ((unit_split packets (
       some (front_empty split.rest (no_rest (inr (faults.Short, rw (none, append-nil split.rest) is)) goes_on))
 
   pub none_refused : (input : InputChange) → input.left.after ≡ Some more → IsFalse (has_ended split)
-      → (fault : UnitFault) → data_unit split.rest ≡ Err fault → IsLast input split.rest fault → ⊥
+      → (fault : UnitFault) → data_unit split.rest ≡ Err fault → StopsReading input split.rest fault → ⊥
   none_refused input tells goes_on faults.Short is last = no_short is last.0 (rw tells at last.1) goes_on
   none_refused input tells goes_on fault is last = no_bad fault (λ e. cc) is last goes_on

@@ -4,7 +4,7 @@ use Rattle.std.specs.Prelude.{None, IsTrue, IsFalse, Result, Ok, Err}
 use Rattle.cmd_send.specs.FramesSent.{bytes_in}
 use Rattle.link_outside.specs.Outlets.{capture_of}
 use Rattle.cmd_stream.specs.Counted.{counted_in_64}
-use Rattle.cmd_stream.specs.Playing.{IsLast, UnitSplit, has_ended, unit_split}
+use Rattle.cmd_stream.specs.Playing.{StopsReading, UnitSplit, has_ended, unit_split}
 use Rattle.link_report.specs.declared.ending.Ending.{Ending}
 use Rattle.link_report.specs.declared.ending.Ending.TheVariants.{InputFailed, OutputFailed, NoMemory}
 use Rattle.link_report.specs.declared.ending.Ending.TheVariants.{PacketLimit, SliceTooLarge, StreamBad}
@@ -105,7 +105,7 @@ pub record HasUnreadRest (s : Packing) (packets : ℕ) (input : InputChange) (u 
   pub wanted : length u.units < packets
   pub fault : UnitFault
   pub refused : data_unit u.rest ≡ Err fault
-  pub last : IsLast input u.rest fault
+  pub last : StopsReading input u.rest fault
 
 -- a unit is refused: by those before it, or as it stands; those before it were packed
 pub record IsBadStream

@@ -87,9 +87,9 @@ pub record EndsWithRefused (s : UnitSplit) : Type 0 where
 
 -- nothing was read behind the 13 bytes of a refused parse info; the input ends within a unit that
 -- is short
-abbrev pub IsLast : InputChange → List ℕ → UnitFault → Type 0
-IsLast input rest Short = (rest ≢ []) × IsAtEnd input.left.after
-IsLast input rest fault = length rest ≡ 13
+abbrev pub StopsReading : InputChange → List ℕ → UnitFault → Type 0
+StopsReading input rest Short = (rest ≢ []) × IsAtEnd input.left.after
+StopsReading input rest fault = length rest ≡ 13
 
 -- a unit more was asked for, and the rest, whatever follows, begins with none
 pub record HasRefusedRest (packets : ℕ) (input : InputChange) (s : UnitSplit) : Type 0 where
@@ -98,7 +98,7 @@ pub record HasRefusedRest (packets : ℕ) (input : InputChange) (s : UnitSplit) 
   pub wanted : length s.units < packets
   pub fault : UnitFault
   pub refused : data_unit s.rest ≡ Err fault
-  pub last : IsLast input s.rest fault
+  pub last : StopsReading input s.rest fault
 
 -- a unit is refused: by those before it, or as it stands
 pub record IsBad

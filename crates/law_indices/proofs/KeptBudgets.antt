@@ -5,7 +5,7 @@ use Rattle.std.specs.List.{range_with_len, enumerate_from, position_or_len}
 use Rattle.std.proofs.lemmas.Bool.Decides.{nat_tests}
 use Rattle.std.proofs.lemmas.Nat.{le-div}
 use Rattle.std.proofs.lemmas.List.FromFn.{take-map-range_with_len}
-use Rattle.law_indices.specs.Budgets.{BudgetsAreKept, CanKeepShares, slice_bytes}
+use Rattle.law_indices.specs.Budgets.{BudgetsAreKept, CanKeepShares, coded_slices}
 use Rattle.link_model.specs.SendingPictures.{budget_share, chosen_index, chosen_indices, least_fitting, need_of, picture_needs, sent_coefficients, sent_length, sent_parameters, sent_slice, sent_slices, wants_lengths}
 use Rattle.link_model.proofs.PackedBits.{length-packed_bits}
 use Rattle.vc_slice.proofs.EncodedSlices.{length_slice}
@@ -91,7 +91,7 @@ module _ (settings : SendSettings) (planes : Planes) (bytes : ℕ) (is : setting
   abbrev bytes_at : ℕ → List (ℕ × ℕ) → List ℕ
   bytes_at first zs = joined (map (λ z. sent_slice p planes z.0 z.1) zs)
 
-  chosen : slice_bytes s planes ≡ joined (map (λ z. sent_slice p planes z.0 z.1) (enumerate_from 0 (map index (range_with_len 0 n))))
+  chosen : coded_slices s planes ≡ joined (map (λ z. sent_slice p planes z.0 z.1) (enumerate_from 0 (map index (range_with_len 0 n))))
   unfolding chosen_indices picture_needs sent_slices
   chosen = ap (λ (l : List ℕ). joined (map (λ z. sent_slice p planes z.0 z.1) (enumerate_from 0 l)))
       (ap (take n) (all_chosen 0 n) ∙ take-map-range_with_len index 0 n n (omega arith))
@@ -127,7 +127,7 @@ module _ (settings : SendSettings) (planes : Planes) (bytes : ℕ) (is : setting
         let end : first + suc count ≡ first + 1 + count = omega arith in
         rw end (omega (arith, own, rest, grows, long))
 
-    all_kept : length (slice_bytes s planes) ≤ bytes
+    all_kept : length (coded_slices s planes) ≤ bytes
     all_kept =
         let last : 0 + n ≡ n = omega arith in
         let all : shared bytes n (0 + n) ≤ bytes = rw last (shared_all bytes n) in

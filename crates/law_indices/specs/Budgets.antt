@@ -20,12 +20,12 @@ CanKeepShares s planes bytes = (slice : ℕ) → slice < slice_count (sent_param
     → CanKeep s planes slice (budget_share bytes (slice_count (sent_parameters s)) slice)
 
 -- the bytes of all slices of a picture, at the indices that the settings choose
-abbrev pub slice_bytes : Sending → Planes → List ℕ
-slice_bytes s planes = joined (sent_slices (sent_parameters s) planes (chosen_indices s planes))
+abbrev pub coded_slices : Sending → Planes → List ℕ
+coded_slices s planes = joined (sent_slices (sent_parameters s) planes (chosen_indices s planes))
 
 -- Where each slice of a picture can keep to its share, all of them together keep to the budget.
 abbrev pub BudgetsAreKept : Type 0
 BudgetsAreKept = (settings : SendSettings) (planes : Planes) (bytes : ℕ)
     → settings.choice ≡ Budget bytes
     → CanKeepShares (sending_view settings) planes bytes
-    → length (slice_bytes (sending_view settings) planes) ≤ bytes
+    → length (coded_slices (sending_view settings) planes) ≤ bytes

@@ -1,12 +1,11 @@
 -- The entries of bytes that are read one entry after another.
 use Rattle.std.proofs.Common.{◌≡◌, ℕ, zero, suc, ◌^◌, ◌<◌, ◌≤◌, List, [], ◌∷◌, ◌++◌, length, Option, Some, None, refl, sym, ap, ◌∙◌, arith, append_assoc, All}
 use Rattle.std.specs.List.{flat_map}
-use Rattle.std.proofs.lemmas.List.{append-nil}
 use Rattle.std.proofs.lemmas.List.Elements.{All-drop, All-head, All-tail}
 use Rattle.std.proofs.Math.Seq.{drop-append_seam}
 use Rattle.std.proofs.lemmas.List.Concat.{flat_map-cons}
 use Rattle.link_capture.specs.Capture.{entry, first_entry, entries_within, entries_of, BeginsEntry}
-use Rattle.link_capture.proofs.Heads.{first_entry-entry, first_entry-shorter, first_entry-is, first_entry-append, begins_entry}
+use Rattle.link_capture.proofs.Heads.{first_entry-entry, first_entry-shorter, first_entry-is, begins_entry}
 
 -- an entry before other entries
 abbrev then : List ℕ → List (List ℕ) × List ℕ → List (List ℕ) × List ℕ
@@ -60,44 +59,9 @@ entries_of-first bytes first is =
 pub entries_of-entry : (datagram rest : List ℕ) → length datagram < 2 ^ 16 → entries_of (entry datagram ++ rest) ≡ (datagram ∷ (entries_of rest).0, (entries_of rest).1)
 entries_of-entry datagram rest fits = entries_of-first (entry datagram ++ rest) (datagram, rest) (first_entry-entry datagram rest fits)
 
-entries_are : (p q : List (List ℕ) × List ℕ) → p ≡ q → p.0 ≡ q.0
-entries_are p q same = ap (λ (split : List (List ℕ) × List ℕ). split.0) same
-
-rests_are : (p q : List (List ℕ) × List ℕ) → p ≡ q → p.1 ≡ q.1
-rests_are p q same = ap (λ (split : List (List ℕ) × List ℕ). split.1) same
-
-then-cases : (most : ℕ) (bytes more : List ℕ) (entries : List (List ℕ)) → length bytes ≤ most → entries_of bytes ≡ (entries, []) → (found : Option (List ℕ × List ℕ)) → first_entry bytes ≡ found
-    → entries_of (bytes ++ more) ≡ (entries ++ (entries_of more).0, (entries_of more).1)
-then-cases most bytes more entries h whole None is =
-    grind (arith, entries_are, entries_of-part, rests_are)
-then-cases zero bytes more entries h whole (Some first) is = absurd (omega (arith, first_entry-shorter bytes first is))
-then-cases (suc most) bytes more entries h whole (Some first) is =
-    let split = sym (entries_of-first bytes first is) ∙ whole in
-    let behind : entries_of first.1 ≡ ((entries_of first.1).0, []) = ap (λ (rest : List ℕ). ((entries_of first.1).0, rest)) (rests_are (first.0 ∷ (entries_of first.1).0, (entries_of first.1).1) (entries, []) split) in
-    let all = then-cases most first.1 more (entries_of first.1).0 (omega (arith, first_entry-shorter bytes first is)) behind (first_entry first.1) refl in
-    entries_of-first (bytes ++ more) (first.0, first.1 ++ more) (first_entry-append bytes more first is)
-    ∙ ap (then first.0) all
-    ∙ ap (λ (front : List (List ℕ)). (front ++ (entries_of more).0, (entries_of more).1)) (entries_are (first.0 ∷ (entries_of first.1).0, (entries_of first.1).1) (entries, []) split)
-
--- whole entries, and the entries of what is behind them
-pub entries_of-then : (bytes more : List ℕ) (entries : List (List ℕ)) → entries_of bytes ≡ (entries, []) → entries_of (bytes ++ more) ≡ (entries ++ (entries_of more).0, (entries_of more).1)
-entries_of-then bytes more entries whole = then-cases (length bytes) bytes more entries (omega arith) whole (first_entry bytes) refl
-
 -- no bytes have no entry
 pub entries_of-nothing : entries_of [] ≡ ([], [])
 entries_of-nothing = entries_of-part [] none-in-nothing
-
--- whole entries, and one more
-pub entries_of-next : (bytes : List ℕ) (entries : List (List ℕ)) (datagram : List ℕ) → entries_of bytes ≡ (entries, []) → length datagram < 2 ^ 16
-    → entries_of (bytes ++ entry datagram) ≡ (entries ++ datagram ∷ [], [])
-entries_of-next bytes entries datagram whole fits =
-    let alone : entries_of (entry datagram) ≡ (datagram ∷ [], []) = rw append-nil at (rw entries_of-nothing at (entries_of-entry datagram [] fits)) in
-    rw alone at (entries_of-then bytes (entry datagram) entries whole)
-
--- whole entries, and the part of one
-pub entries_of-cut : (bytes part : List ℕ) (entries : List (List ℕ)) → entries_of bytes ≡ (entries, []) → first_entry part ≡ None → entries_of (bytes ++ part) ≡ (entries, part)
-entries_of-cut bytes part entries whole not_whole =
-    rw (entries_of-part part not_whole, append-nil) at (entries_of-then bytes part entries whole)
 
 rest-cases : (most : ℕ) (bytes : List ℕ) → length bytes ≤ most → (found : Option (List ℕ × List ℕ)) → first_entry bytes ≡ found → first_entry (entries_of bytes).1 ≡ None
 rest-cases most bytes h None is = rw (entries_of-part bytes is) is

@@ -2,4 +2,3 @@ pub mod Heads
 pub mod Entries
 pub mod EntrySteps
 pub mod Puts
-pub mod EntriesRead

@@ -1,3 +1,2 @@
 pub mod Capture
 pub mod Reading
-pub mod Endings

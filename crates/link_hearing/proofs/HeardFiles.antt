@@ -26,7 +26,7 @@ use Rattle.link_hearing.specs.InletLaws.{left_between}
 use Rattle.link_hearing.specs.Inputs.{HeardSo, HearsInput, record_counts}
 use Rattle.link_hearing.specs.PcapInlets.{StoppedFeed}
 use Rattle.link_hearing.specs.declared.form.InputForm.TheVariants.{Pcap}
-use Rattle.link_hearing.specs.declared.heard.Heard.{Heard}
+use Rattle.link_hearing.specs.declared.heard.HeardInput.{HeardInput}
 use Rattle.link_hearing.specs.declared.heard.RecordCounts.{RecordCounts}
 use Rattle.link_hearing.specs.declared.listener.ListenerFault.{ListenerFault}
 use Rattle.link_hearing.specs.declared.listener.ListenerFault.TheVariants as faults
@@ -372,7 +372,7 @@ module _ (packets port : ℕ) (a b c : Option (List ℕ)) (i j k : ℕ) (heard :
 -- what was lent to a feed comes back as it was left
 module _ {S : Type 0} (left : S → Option (List ℕ)) (faulty : S → ℕ) (old first last end : S)
     (heard : List (List ℕ) → Type 0) (broke : List (List ℕ) → ListenerFault → Type 0) (enough : Type 0)
-    (told : Heard) where
+    (told : HeardInput) where
   pub feed_back : (own port packets : ℕ)
       → HearsRecords own packets (input_of left faulty first last) heard broke enough told
       → own ≡ port → first ≡ old → end ≡ last

@@ -15,7 +15,7 @@ use Rattle.link_hearing.specs.Hearing.{CanGoOn, CaptureHeard, HearsCapture, faul
 use Rattle.link_hearing.specs.Inputs.{HeardSo, HearsInput, InputEnded, datagrams_in}
 use Rattle.link_hearing.specs.declared.form.InputForm.{InputForm}
 use Rattle.link_hearing.specs.declared.form.InputForm.TheVariants.{Capture}
-use Rattle.link_hearing.specs.declared.heard.Heard.{Heard}
+use Rattle.link_hearing.specs.declared.heard.HeardInput.{HeardInput}
 use Rattle.link_hearing.specs.declared.listener.ListenerFault.{ListenerFault}
 use Rattle.link_hearing.specs.declared.listener.ListenerFault.TheVariants as faults
 
@@ -108,7 +108,7 @@ module _ (B : Type 0) (form : InputForm) (packets : ℕ) (input : InputChange)
     so_apart ds ended (Err OutputFailed) so = so
     so_apart ds ended (Err end) so = (so.0.0, (so.0.1, so.1, so.2))
 
-    pub input_apart : (told : Heard)
+    pub input_apart : (told : HeardInput)
         → HearsInput form packets input (λ l. B × heard l) (λ l fault. B × broke l fault) enough told
         → B × HearsInput form packets input heard broke enough told
     input_apart told h =
@@ -120,7 +120,7 @@ module _ (B : Type 0) (form : InputForm) (packets : ℕ) (input : InputChange)
 
 -- a listener that never has enough
 module _ {heard : List (List ℕ) → Type 0} {broke : List (List ℕ) → ListenerFault → Type 0}
-    {form : InputForm} {told : Heard} (packets : ℕ) (input : InputChange)
+    {form : InputForm} {told : HeardInput} (packets : ℕ) (input : InputChange)
     (h : HearsInput form packets input heard broke ⊥ told) where
   abbrev Did : Result (Unit {0}) Ending → Type 0
   Did result = HeardSo (datagrams_in form packets h.given)

@@ -8,7 +8,7 @@ use Rattle.pcap_in.specs.declared.head.FileHead.{FileHead}
 use Rattle.vc_ports.specs.Changes.{InputChange, Took}
 use Rattle.link_hearing.specs.Inputs.{HearsInput, record_counts}
 use Rattle.link_hearing.specs.declared.form.InputForm.TheVariants.{Pcap}
-use Rattle.link_hearing.specs.declared.heard.Heard.{Heard}
+use Rattle.link_hearing.specs.declared.heard.HeardInput.{HeardInput}
 use Rattle.link_hearing.specs.declared.heard.RecordCounts.{RecordCounts}
 use Rattle.link_hearing.specs.declared.listener.ListenerFault.{ListenerFault}
 
@@ -41,6 +41,6 @@ RecordsHeard port packets input heard broke enough counts ended =
     (record { ended = ended; records = counts })
 
 abbrev pub HearsRecords : (port packets : ℕ) → InputChange → (heard : List (List ℕ) → Type 0)
-    → (broke : List (List ℕ) → ListenerFault → Type 0) → (enough : Type 0) → Heard → Type 0
+    → (broke : List (List ℕ) → ListenerFault → Type 0) → (enough : Type 0) → HeardInput → Type 0
 HearsRecords port packets input heard broke enough told =
     RecordsHeard port packets input heard broke enough told.records told.ended

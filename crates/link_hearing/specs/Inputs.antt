@@ -11,7 +11,7 @@ use Rattle.link_hearing.specs.Capture.{ReadingEnded, IsWholeCapture, capture_spl
 use Rattle.link_hearing.specs.Files.{FileEnded, IsWholeFile}
 use Rattle.link_hearing.specs.declared.form.InputForm.{InputForm}
 use Rattle.link_hearing.specs.declared.form.InputForm.TheVariants.{Capture, Pcap}
-use Rattle.link_hearing.specs.declared.heard.Heard.{Heard}
+use Rattle.link_hearing.specs.declared.heard.HeardInput.{HeardInput}
 use Rattle.link_hearing.specs.declared.heard.RecordCounts.{RecordCounts}
 use Rattle.link_hearing.specs.declared.listener.ListenerFault.{ListenerFault}
 use Rattle.link_hearing.specs.declared.listener.ListenerFault.TheVariants as faults
@@ -68,7 +68,7 @@ HeardSo datagrams ended input heard broke enough (Err end) =
 -- the datagrams of the bytes that the input gave were heard
 pub record HearsInput
     (form : InputForm) (packets : ℕ) (input : InputChange) (heard : List (List ℕ) → Type 0)
-    (broke : List (List ℕ) → ListenerFault → Type 0) (enough : Type 0) (told : Heard) : Type 0
+    (broke : List (List ℕ) → ListenerFault → Type 0) (enough : Type 0) (told : HeardInput) : Type 0
   where
     pub given : List ℕ
     pub took : Took input given

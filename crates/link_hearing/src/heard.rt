@@ -2,7 +2,7 @@ use link_report::Ending;
 
 /// What hearing the datagrams of an input came to.
 #[derive(Clone, Copy)]
-pub struct Heard {
+pub struct HeardInput {
     /// Whether they were heard to their end, or why not.
     pub ended: Result<(), Ending>,
     /// What was read of a pcap file; None of a capture.

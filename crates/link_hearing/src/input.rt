@@ -4,7 +4,7 @@ ghost use Rattle.link_hearing.specs.FileHearing.{HearsRecords};
 ghost use Rattle.vc_ports.specs.Changes.{input_of};
 
 use crate::form::InputForm;
-use crate::heard::{Heard, RecordCounts};
+use crate::heard::{HeardInput, RecordCounts};
 use crate::hearing::{hear_all, hear_capture, look_behind};
 use crate::listener::Listener;
 use crate::pcap_inlet::PcapInlet;
@@ -20,14 +20,14 @@ pub fn hear_input<S: Source, L: Listener>(
     packets: u32,
     input: &mut S,
     listener: &mut L,
-) -> Heard
+) -> HeardInput
     requires { L.is_ready listener.old }
     ensures { HearsInput form packets (input_of S.left S.faults input.old input.new)
         (L.heard listener.old listener.new) (L.broke listener.old listener.new)
         (L.has_enough listener.new) result }
 {
     match form {
-        InputForm::Capture => Heard {
+        InputForm::Capture => HeardInput {
             ended: hear_capture(alloc, packets, input, listener),
             records: None,
         },
@@ -41,20 +41,20 @@ fn hear_pcap<S: Source, L: Listener>(
     packets: u32,
     input: &mut S,
     listener: &mut L,
-) -> Heard
+) -> HeardInput
     requires { L.is_ready listener.old }
     ensures { HearsInput (InputForm.Pcap port) packets
         (input_of S.left S.faults input.old input.new)
         (L.heard listener.old listener.new) (L.broke listener.old listener.new)
         (L.has_enough listener.new) result }
 {
-    let Heard { ended, records } = hear_records(alloc, port, packets, input, listener);
+    let HeardInput { ended, records } = hear_records(alloc, port, packets, input, listener);
     match ended {
-        Ok(()) => Heard {
+        Ok(()) => HeardInput {
             ended: Ok(()),
             records,
         },
-        Err(ending) => Heard {
+        Err(ending) => HeardInput {
             ended: look_behind(input, ending),
             records,
         },
@@ -67,7 +67,7 @@ fn hear_records<S: Source, L: Listener>(
     packets: u32,
     input: &mut S,
     listener: &mut L,
-) -> Heard
+) -> HeardInput
     requires { L.is_ready listener.old }
     ensures { HearsRecords port packets (input_of S.left S.faults input.old input.new)
         (L.heard listener.old listener.new) (L.broke listener.old listener.new)
@@ -84,7 +84,7 @@ fn hear_feed<S: Source, L: Listener>(
     packets: u32,
     inlet: &mut PcapInlet<S>,
     listener: &mut L,
-) -> Heard
+) -> HeardInput
     requires head { inlet.old.reader.head ≡ None }
     requires place { inlet.old.reader.place ≡ 0 }
     requires sound { inlet.old.reader.fault ≡ None }
@@ -99,7 +99,7 @@ fn hear_feed<S: Source, L: Listener>(
         (L.has_enough listener.new) result }
 {
     let ended = hear_all(packets, inlet, listener);
-    Heard {
+    HeardInput {
         ended,
         records: Some(RecordCounts {
             records: inlet.feed.records(),

@@ -12,7 +12,7 @@ mod listener;
 mod pcap_inlet;
 
 pub use form::InputForm;
-pub use heard::{Heard, RecordCounts};
+pub use heard::{HeardInput, RecordCounts};
 pub use hearing::hear_all;
 pub use inlet::Inlet;
 pub use input::hear_input;

@@ -4,7 +4,6 @@ use Rattle.std.specs.List.{flat_map, list_all, range_with_len}
 use Rattle.std.specs.Option.{option_and_then}
 use Rattle.link_model.specs.Kept.{Own, own, own_slice}
 use Rattle.link_model.specs.Session.{Part}
-use Rattle.vc_types.specs.Pictures.{decoded_picture}
 use Rattle.vc_types.specs.Planes.{Planes, decoded_planes}
 use Rattle.vc_types.specs.SequenceHeader.{Sequence}
 use Rattle.vc_types.specs.Subbands.{slice_count}
@@ -31,10 +30,6 @@ whole_picture sequence parts = option_and_then whole_of (own sequence parts)
 
 abbrev pub is_complete : Sequence → List Part → Bool
 is_complete sequence parts = is_some (whole_picture sequence parts)
-
--- whole bytes of which every slice decodes
-abbrev pub is_sound : Sequence → List ℕ → Bool
-is_sound sequence bytes = is_some (decoded_picture sequence bytes)
 
 -- the planes of a picture that is complete and sound
 abbrev pub picture_planes : Sequence → List Part → Option Planes

@@ -19,7 +19,7 @@ const LOOK_MILLIS: u64 = 100;
 
 /// What came to a socket.
 #[derive(Clone, Copy)]
-pub enum Heard {
+pub enum Arrival {
     /// A datagram of so many bytes stands at the front of the buffer.
     Datagram(usize),
     /// None was kept for too long.
@@ -89,7 +89,7 @@ impl Backlog {
         buf: &mut [u8],
         silence: Option<Duration>,
         kept: Option<Instant>,
-    ) -> Heard
+    ) -> Arrival
         requires room { length buf.old ≡ 65535 }
         ensures length { length buf.new ≡ length buf.old }
         ensures fits { Fits result }
@@ -98,13 +98,13 @@ impl Backlog {
             // Asked for first: what the reader put in before it failed is taken all the same.
             let failure = self.failure();
             if let Some(count) = self.next(buf) {
-                return Heard::Datagram(count);
+                return Arrival::Datagram(count);
             }
             if let Some(error) = failure {
-                return Heard::Failed(error);
+                return Arrival::Failed(error);
             }
             if is_over(rt, silence, kept) {
-                return Heard::Silence;
+                return Arrival::Silence;
             }
             self.shared
                 .bell

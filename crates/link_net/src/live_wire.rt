@@ -1,7 +1,7 @@
 ghost use Rattle.std.specs.Prelude.{◌≡◌, is_some, None};
 ghost use Rattle.vc_ports.specs.Wires.{untold};
 
-use crate::backlog::{Backlog, Heard};
+use crate::backlog::{Arrival, Backlog};
 use crate::launcher::Launcher;
 use crate::notes::WireNotes;
 use crate::send_errors::is_transient;
@@ -176,9 +176,9 @@ impl<H: Threads + Wait + Net + Clock + Copy> Wire for LiveWire<H> {
         let kept = self.kept;
         if let Some(backlog) = &mut self.backlog {
             match backlog.await_next(&rt, buf, silence, kept) {
-                Heard::Datagram(count) => return Came::Datagram(count),
-                Heard::Silence => return Came::End,
-                Heard::Failed(error) => self.error = Some(error),
+                Arrival::Datagram(count) => return Came::Datagram(count),
+                Arrival::Silence => return Came::End,
+                Arrival::Failed(error) => self.error = Some(error),
             }
         }
         self.faults = self.faults.saturating_add(1);

@@ -21,15 +21,15 @@ fn tally_string(alloc: Global, tally: &Tally) -> Result<String, NoMemory>
 
 /// Writes the 31 lines of a tally. They are made whole first: without memory nothing goes out. After a
 /// fault of the report a prefix of them went out.
-pub fn write_tally<O: Sink>(alloc: Global, sink: &mut O, tally: &Tally) -> Result<(), ReportFault>
-    ensures ok { OnOk result (Grew (O.held sink.old) (O.held sink.new) (tally_text tally.now)) }
+pub fn write_tally<O: Sink>(alloc: Global, sink: &mut O, t: &Tally) -> Result<(), ReportFault>
+    ensures ok { OnOk result (Grew (O.held sink.old) (O.held sink.new) (tally_text t.now)) }
     ensures err { OnErr result
-        (GrewBySome (O.held sink.old) (O.held sink.new) (tally_text tally.now)) }
+        (GrewBySome (O.held sink.old) (O.held sink.new) (tally_text t.now)) }
     ensures cause { HasCause (O.faults sink.old) (O.faults sink.new)
         (result ≡ Err ReportFault.ReportFault) }
     ensures no_memory { result ≡ Err ReportFault.NoMemory → sink.new ≡ sink.old }
 {
-    let Ok(text) = tally_string(alloc, tally) else {
+    let Ok(text) = tally_string(alloc, t) else {
         return Err(ReportFault::NoMemory);
     };
     match write_all(sink, text.as_bytes()) {

@@ -5,7 +5,7 @@ use Rattle.link_model.specs.Packets.{PayloadValue, Header, End, Params, Fragment
 use Rattle.link_model.specs.Sending.{Outgoing, DatagramContent, HeaderContent, ParametersContent, SlicesContent, EndContent, content_value, datagrams_from, flags_byte, has_marker, high_half, number_bits, run_value, sent_datagram, sent_packet, sent_value, timestamp_of}
 use Rattle.link_model.specs.SendingPictures.{sent_header, sent_parameter_bytes}
 use Rattle.link_sender.specs.declared.outbox.Outbox.{Outbox}
-use Rattle.link_sender.specs.Packing.{Sends}
+use Rattle.link_sender.specs.Packing.{Appends}
 use Rattle.vc_types.specs.SenderSettings.{Sending}
 
 -- ---- numbers of 32 bits
@@ -59,8 +59,8 @@ module _ (s : Sending) where
 
   -- ---- what is put
 
-  pub sends_more : (a b : List Outgoing) (x y z : Outbox) → Sends s a x y → Sends s b y z → Sends s (a ++ b) x z
-  sends_more a b x y z first second = grind (arith, common_steps, length-append, wrapped, appended)
+  pub appends_more : (a b : List Outgoing) (x y z : Outbox) → Appends s a x y → Appends s b y z → Appends s (a ++ b) x z
+  appends_more a b x y z first second = grind (arith, common_steps, length-append, wrapped, appended)
 
 -- two clauses on what is answered make a third
 pub both_ok : {A E P Q R : Type 0} (r : Result A E) → OnOk r P → OnOk r Q → (P → Q → R) → OnOk r R

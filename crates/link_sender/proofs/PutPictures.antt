@@ -18,9 +18,9 @@ use Rattle.std.specs.Global.{Vec}
 use Rattle.std.proofs.lemmas.List.Elements.{All-head, All-tail, All-weaker}
 use Rattle.link_model.specs.SendingPictures.{sent_parameters}
 use Rattle.link_sender.specs.declared.encoding.FrameSlices.{FrameSlices}
-use Rattle.link_sender.specs.Packing.{Sends, packing_of}
+use Rattle.link_sender.specs.Packing.{Appends, packing_of}
 use Rattle.link_sender.specs.Sent.{IsPicture, coded_frame_outgoing, coded_outgoing, coded_pictures_outgoing, slices_by_picture, second_pictures}
-use Rattle.link_sender.proofs.Numbered.{sends_more}
+use Rattle.link_sender.proofs.Numbered.{appends_more}
 use Rattle.link_sender.proofs.SentBytes.{datagrams_count}
 use Rattle.picture_encode.specs.declared.slices.EncodedSlice.{EncodedSlice}
 use Rattle.picture_encode.specs.Encoded.{IsSized, slice_bytes}
@@ -178,11 +178,11 @@ module _ (s : Sending) (coded : FrameSlices) where
   at f = f * pictures_per_frame s
 
   pub one_sent : (f : ℕ) (slices : List EncodedSlice) (x y : Outbox) → slices ≡ coded.first.items → coded.second ≡ None
-      → Sends s (coded_outgoing s (at f + 0) (slice_bytes slices)) x y → Sends s (coded_frame_outgoing s f coded) x y
-  one_sent f slices x y is none sends = grind (arith, common_steps, append-nil)
+      → Appends s (coded_outgoing s (at f + 0) (slice_bytes slices)) x y → Appends s (coded_frame_outgoing s f coded) x y
+  one_sent f slices x y is none appends = grind (arith, common_steps, append-nil)
 
   pub two_sent : (f : ℕ) (slices others : List EncodedSlice) (second : Vec EncodedSlice) (x y z : Outbox) → slices ≡ coded.first.items → coded.second ≡ Some second → others ≡ second.items
-      → Sends s (coded_outgoing s (at f + 0) (slice_bytes slices)) x y → Sends s (coded_outgoing s (at f + 1) (slice_bytes others)) y z → Sends s (coded_frame_outgoing s f coded) x z
+      → Appends s (coded_outgoing s (at f + 0) (slice_bytes slices)) x y → Appends s (coded_outgoing s (at f + 1) (slice_bytes others)) y z → Appends s (coded_frame_outgoing s f coded) x z
   two_sent f slices others second x y z is some are one two =
       let here : at f + 0 ≡ at f = omega arith in
       let a = coded_outgoing s (at f + 0) (slice_bytes slices) in
@@ -191,13 +191,13 @@ module _ (s : Sending) (coded : FrameSlices) where
       (λ i. coded_outgoing s (here i) (slice_bytes (is i)) ++ coded_outgoing s (at f + 1) (slice_bytes (are i)))
       ∙ ap (λ l. coded_outgoing s (at f) (slice_bytes coded.first.items) ++ l) (sym (append-nil (coded_outgoing s (at f + 1) (slice_bytes second.items))))
       ∙ ap (λ (o : Option (Vec EncodedSlice)). coded_outgoing s (at f) (slice_bytes coded.first.items) ++ coded_pictures_outgoing s (at f + 1) (second_pictures o)) (sym some) in
-      subst (λ (l : List Outgoing). Sends s l x z) outgoing (sends_more s a b x y z one two)
+      subst (λ (l : List Outgoing). Appends s l x z) outgoing (appends_more s a b x y z one two)
 
 -- ---- the numbers behind a frame
 
 module _ (s : Sending) where
-  pub number_behind : (more : List Outgoing) (x y : Outbox) → x.datagrams.items ≡ [] → Sends s more x y → y.sequence ≡ (x.sequence + length y.datagrams.items) % 2 ^ 32
-  number_behind more x y none sends = grind (arith, common_steps, length-map, datagrams_count)
+  pub number_behind : (more : List Outgoing) (x y : Outbox) → x.datagrams.items ≡ [] → Appends s more x y → y.sequence ≡ (x.sequence + length y.datagrams.items) % 2 ^ 32
+  number_behind more x y none appends = grind (arith, common_steps, length-map, datagrams_count)
 
   pub last_timestamp : (f time : ℕ) → time ≡ timestamp_of s (f * pictures_per_frame s + digit_of s.frames.fields) → time ≡ timestamp_of s (f * pictures_per_frame s + (pictures_per_frame s - 1))
   last_timestamp f time is = grind (arith, common_steps)

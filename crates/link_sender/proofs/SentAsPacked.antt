@@ -7,7 +7,7 @@ use Rattle.link_model.specs.SendingPictures.{sent_header, sent_parameter_bytes, 
 use Rattle.stream_model.specs.Packing.{PackedPicture, contents_from, datagram_around, end_around, ends_picture, packed_flags, packed_head, packed_value, first_large_part, packed_contents, packed_timestamp}
 use Rattle.link_sender.specs.declared.outbox.Outbox.{Outbox}
 use Rattle.link_sender.specs.declared.picture.Picture.{Picture}
-use Rattle.link_sender.specs.Packing.{IsPictureAt, Sends, bytes_of_all, datagram_with, packing_of}
+use Rattle.link_sender.specs.Packing.{Appends, IsPictureAt, bytes_of_all, datagram_with, packing_of}
 use Rattle.link_sender.specs.Puts.{PutsDatagrams}
 use Rattle.vc_types.specs.SenderSettings.{Sending, Packing, packing_view}
 use Rattle.vc_types.specs.Settings.{first_picture_fits}
@@ -59,8 +59,8 @@ module _ (s : Sending) (picture : ℕ) (fits : first_picture_fits s.frames.field
   sent_as_packed n [] = refl
   sent_as_packed n (c ∷ cs) = λ i. same_datagram n c i ∷ sent_as_packed (n + 1) cs i
 
-  pub sends_packed : (p : Picture) (cs : List DatagramContent) (x y : Outbox) → IsPictureAt s picture p → PutsDatagrams p cs x y → Sends s (map (outgoing picture) cs) x y
-  sends_packed p cs x y is puts = record {
+  pub appends_packed : (p : Picture) (cs : List DatagramContent) (x y : Outbox) → IsPictureAt s picture p → PutsDatagrams p cs x y → Appends s (map (outgoing picture) cs) x y
+  appends_packed p cs x y is puts = record {
     datagrams_are =
         puts.datagrams_are
         ∙ ap (λ l. bytes_of_all x.datagrams.items ++ l)

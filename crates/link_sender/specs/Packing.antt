@@ -39,7 +39,7 @@ datagram_with s number timestamp marker value =
     rtp_header (packet_with s number timestamp marker) ++ payload_bytes value
 
 -- these datagrams were put behind the others
-pub record Sends (s : Sending) (more : List Outgoing) (old new : Outbox) : Type 0 where
+pub record Appends (s : Sending) (more : List Outgoing) (old new : Outbox) : Type 0 where
   pub datagrams_are : bytes_of_all new.datagrams.items
       ≡ bytes_of_all old.datagrams.items ++ datagrams_from s old.sequence more
   pub number_is : new.sequence ≡ (old.sequence + length more) % 2 ^ 32

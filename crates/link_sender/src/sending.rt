@@ -1,7 +1,7 @@
 ghost use Rattle.std.specs.Prelude.{◌≡◌, ◌*◌, IfOk, OnErr, OnOk, length};
 ghost use Rattle.link_model.specs.Sending.{datagrams_from, pictures_per_frame, timestamp_of};
 ghost use Rattle.link_model.specs.SendingPictures.{IsFrame, packed_bits, sent_header, sent_parameter_bytes};
-ghost use Rattle.link_sender.specs.Packing.{IsPictureAt, IsPlace, Sends};
+ghost use Rattle.link_sender.specs.Packing.{Appends, IsPictureAt, IsPlace};
 ghost use Rattle.link_sender.specs.Packing.{bytes_of_all, packing_of, picture_at};
 ghost use Rattle.link_sender.specs.Sent.{ArePictures, IsPicture, SendsFrame};
 ghost use Rattle.link_sender.specs.Sent.{coded_frame_outgoing, coded_outgoing, numbers_behind};
@@ -31,9 +31,9 @@ use vc_types::{NoMemory, PackSettings, Plane, SendSettings, SliceNeed};
 
 impl<F: Fn(&SliceNeed) -> u8> Sender<F> {
     /// A sender that has sent nothing.
-    pub fn new(alloc: Global, s: SendSettings, chooser: Chooser<F>) -> Sender<F>
+    pub fn new(alloc: Global, s: SendSettings, c: Chooser<F>) -> Sender<F>
         ensures settings { result.settings ≡ s }
-        ensures chooser { result.chooser ≡ chooser }
+        ensures chooser { result.chooser ≡ c }
         ensures numbers { numbers_of result
             ≡ record { frame = 0; number = s.seq; timestamp = 0 } }
     {
@@ -42,7 +42,7 @@ impl<F: Fn(&SliceNeed) -> u8> Sender<F> {
         Sender {
             alloc,
             settings: s,
-            chooser,
+            chooser: c,
             header,
             plan,
             frame: 0,
@@ -137,7 +137,7 @@ impl<F: Fn(&SliceNeed) -> u8> Sender<F> {
     // Puts the datagrams of a frame's pictures.
     fn put_pictures(&self, outbox: &mut Outbox, slices: &FrameSlices) -> Result<(), NoMemory>
         requires whole { ArePictures (sending_view self.now.settings) slices.now }
-        ensures { OnOk result (Sends (sending_view self.now.settings)
+        ensures { OnOk result (Appends (sending_view self.now.settings)
             (coded_frame_outgoing (sending_view self.now.settings) self.now.frame slices.now)
             outbox.old outbox.new) }
     {
@@ -167,7 +167,7 @@ impl<F: Fn(&SliceNeed) -> u8> Sender<F> {
     ) -> Result<(), NoMemory>
         requires place { IsPlace (sending_view self.now.settings) place.now }
         requires whole { IsPicture (sending_view self.now.settings) slices.now }
-        ensures { OnOk result (Sends (sending_view self.now.settings)
+        ensures { OnOk result (Appends (sending_view self.now.settings)
             (coded_outgoing (sending_view self.now.settings)
             (picture_at (sending_view self.now.settings) place.now) (slice_bytes slices.now))
             outbox.old outbox.new) }

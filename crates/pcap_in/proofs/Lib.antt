@@ -4,5 +4,4 @@ pub mod Streams
 pub mod Passing
 pub mod FeedSteps
 pub mod Splits
-pub mod Files
 pub mod FileRows

@@ -6,7 +6,7 @@ use Rattle.std.proofs.Math.Seq.{drop-append_seam}
 use Rattle.byteorder.specs.Numbers.{big_number-reads_back, little_number-reads_back, length-bytes_high_first, length-bytes_low_first}
 use Rattle.vc_types.specs.Fields.{and_then, next_items}
 use Rattle.vc_types.proofs.FieldCodecs.{next_items_codec}
-use Rattle.pcap_in.specs.Pcap.{number_in, number_bytes, kept_length, kept_bytes, pcap_record, record_bytes, RecordRefusal, Short, TooLong}
+use Rattle.pcap_in.specs.Pcap.{file_number, number_bytes, kept_length, kept_bytes, pcap_record, record_bytes, RecordRefusal, Short, TooLong}
 use Rattle.pcap_in.specs.declared.head.Order.{Order}
 use Rattle.pcap_in.specs.declared.head.Order.TheVariants.{Big, Little}
 
@@ -54,7 +54,7 @@ record-whole order head kept rest count len told fits whole = with_length order 
 
 -- ---- records that are written
 
-number_back : (order : Order) (n : ℕ) (rest : List ℕ) → n < 256 ^ 4 → number_in order (number_bytes order n ++ rest) ≡ n
+number_back : (order : Order) (n : ℕ) (rest : List ℕ) → n < 256 ^ 4 → file_number order (number_bytes order n ++ rest) ≡ n
 number_back Big n rest fits = big_number-reads_back 4 n rest fits
 number_back Little n rest fits = little_number-reads_back 4 n rest fits
 
@@ -85,7 +85,7 @@ record-written order time original kept more eight four fits =
     small = omega arith
 
     told : kept_length order head ≡ length kept
-    told = ap (number_in order) behind_time ∙ number_back order (length kept) original small
+    told = ap (file_number order) behind_time ∙ number_back order (length kept) original small
 
     regrouped : (head ++ kept) ++ more ≡ head ++ (kept ++ more)
     regrouped = append_assoc head kept more

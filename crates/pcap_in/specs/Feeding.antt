@@ -169,12 +169,6 @@ Feeds x y (Err fault) = BroughtNone x y fault
 abbrev pub carried_in : ℕ → FileSplit → List (List ℕ)
 carried_in port split = payloads_of split.head port split.records
 
--- the source gave the bytes of a file that is split so, at most so many records being read
-pub record GaveFile (packets : ℕ) (before after : Option (List ℕ)) (split : FileSplit) : Type 0 where
-  pub given : List ℕ
-  pub gave : Gave before after given
-  pub is : file_split packets given ≡ split
-
 -- the payloads that the whole records of a file carry to a port, at most so many records being read
 unfoldable pub carried_of : (packets port : ℕ) → List ℕ → List (List ℕ)
 carried_of packets port bytes = carried_in port (file_split packets bytes)

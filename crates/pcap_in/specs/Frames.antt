@@ -146,14 +146,14 @@ abbrev pub udp_length : List ℕ → ℕ
 udp_length datagram = big_number 2 (drop 4 datagram)
 
 -- port 0 stands for all of them
-abbrev pub is_wanted : ℕ → ℕ → Bool
-is_wanted port to = port == 0 || to == port
+abbrev pub is_to_port : ℕ → ℕ → Bool
+is_to_port port to = port == 0 || to == port
 
 -- a datagram for a port, which isn't shorter than 8 bytes or longer than the part that it stands in
 unfoldable pub is_udp_for : ℕ → List ℕ → Bool
 is_udp_for port datagram =
     nat_le 8 (length datagram) && (nat_le 8 (udp_length datagram)
-    && nat_le (udp_length datagram) (length datagram) && is_wanted port (udp_port datagram))
+    && nat_le (udp_length datagram) (length datagram) && is_to_port port (udp_port datagram))
 
 abbrev pub udp_part : ℕ → ℕ → List ℕ → Option (ℕ × ℕ)
 udp_part port from datagram =

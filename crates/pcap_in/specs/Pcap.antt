@@ -11,9 +11,9 @@ use Rattle.pcap_in.specs.declared.network.Network.{Network}
 use Rattle.pcap_in.specs.declared.network.Network.TheVariants.{Ethernet, LinuxCooked, LinuxCooked2}
 
 -- the number in the first four bytes, in a file's order
-abbrev pub number_in : Order → List ℕ → ℕ
-number_in Big bytes = big_number 4 bytes
-number_in Little bytes = little_number 4 bytes
+abbrev pub file_number : Order → List ℕ → ℕ
+file_number Big bytes = big_number 4 bytes
+file_number Little bytes = little_number 4 bytes
 
 -- ---- the 24 bytes before the records: a magic number, 16 bytes that aren't used, the network
 
@@ -40,7 +40,7 @@ head_of order network = record { order = order; network = network }
 
 -- a head whose numbers have this order
 abbrev pub head_in : List ℕ → Order → Option FileHead
-head_in head order = option_map (head_of order) (network_of (number_in order (drop 20 head)))
+head_in head order = option_map (head_of order) (network_of (file_number order (drop 20 head)))
 
 -- what the 24 bytes tell, where they are a head
 unfoldable pub file_head : List ℕ → Option FileHead
@@ -59,7 +59,7 @@ pub data RecordRefusal : Type 0 where
 
 -- how many bytes a record keeps, by the 16 bytes before them
 abbrev pub kept_length : Order → List ℕ → ℕ
-kept_length order head = number_in order (drop 8 head)
+kept_length order head = file_number order (drop 8 head)
 
 abbrev pub kept_bytes : ℕ → Field ℕ RecordRefusal (List ℕ)
 kept_bytes count = if nat_lt 262144 count then refuse TooLong else next_items Short count
@@ -81,14 +81,14 @@ record_bytes order time original kept =
     (time ++ (number_bytes order (length kept) ++ original)) ++ kept
 
 -- a record before other records
-abbrev pub before : List ℕ → List (List ℕ) × List ℕ → List (List ℕ) × List ℕ
-before kept behind = (kept ∷ behind.0, behind.1)
+abbrev pub with_record_first : List ℕ → List (List ℕ) × List ℕ → List (List ℕ) × List ℕ
+with_record_first kept behind = (kept ∷ behind.0, behind.1)
 
 -- the first record, and those behind it; none where it is refused
 abbrev pub records_from : List ℕ → (List ℕ → List (List ℕ) × List ℕ)
     → Result (List ℕ × List ℕ) RecordRefusal → List (List ℕ) × List ℕ
 records_from bytes behind (Err refusal) = ([], bytes)
-records_from bytes behind (Ok read) = before read.0 (behind read.1)
+records_from bytes behind (Ok read) = with_record_first read.0 (behind read.1)
 
 -- what the whole records that begin the bytes keep, at most so many records, and the rest
 unfoldable pub records_within : ℕ → Order → List ℕ → List (List ℕ) × List ℕ

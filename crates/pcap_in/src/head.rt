@@ -1,6 +1,6 @@
 //! The head of a pcap file: 24 bytes, with the order of the file's numbers and its network.
 ghost use Rattle.std.specs.Prelude.{◌≡◌, ◌≤◌, length};
-ghost use Rattle.pcap_in.specs.Pcap.{is_magic, number_in, order_of, network_of, file_head, kept_length};
+ghost use Rattle.pcap_in.specs.Pcap.{is_magic, file_number, order_of, network_of, file_head, kept_length};
 
 use crate::network::Network;
 use byteorder::{BigEndian, ByteOrder, LittleEndian};
@@ -37,9 +37,9 @@ pub struct FileHead {
 }
 
 // The number in the first four bytes.
-fn number_in(order: Order, bytes: &[u8]) -> u32
+fn file_number(order: Order, bytes: &[u8]) -> u32
     requires { 4 ≤ length bytes.now }
-    ensures { result ≡ number_in order bytes.now }
+    ensures { result ≡ file_number order bytes.now }
 {
     match order {
         Order::Big => BigEndian::read_u32(bytes),
@@ -87,7 +87,7 @@ pub(crate) fn file_head(head: &[u8; HEAD_BYTES]) -> Option<FileHead>
     ensures { result ≡ file_head head.now }
 {
     let order = order_of(head)?;
-    let network = network_of(number_in(order, &head[20..]))?;
+    let network = network_of(file_number(order, &head[20..]))?;
     Some(FileHead { order, network })
 }
 
@@ -95,5 +95,5 @@ pub(crate) fn file_head(head: &[u8; HEAD_BYTES]) -> Option<FileHead>
 pub(crate) fn kept_length(order: Order, head: &[u8; RECORD_BYTES]) -> u32
     ensures { result ≡ kept_length order head.now }
 {
-    number_in(order, &head[8..])
+    file_number(order, &head[8..])
 }

@@ -3,7 +3,7 @@
 ghost use Rattle.std.specs.Prelude.{◌≡◌, ◌≤◌, ◌+◌, length, IfSome, IsTrue};
 ghost use Rattle.pcap_in.specs.Frames.{ip_version, ipv4_header, ipv4_total, is_fragment, ipv4_fits};
 ghost use Rattle.pcap_in.specs.Frames.{is_ipv4_udp, ipv4_payload, ipv6_length, is_ipv6_udp, ipv6_payload};
-ghost use Rattle.pcap_in.specs.Frames.{ip_payload, udp_port, udp_length, is_wanted, is_udp_for, udp_payload};
+ghost use Rattle.pcap_in.specs.Frames.{ip_payload, udp_port, udp_length, is_to_port, is_udp_for, udp_payload};
 
 use byteorder::{BigEndian, ByteOrder};
 
@@ -157,8 +157,8 @@ fn udp_length(datagram: &[u8]) -> usize
     usize::from(BigEndian::read_u16(&datagram[4..]))
 }
 
-fn is_wanted(port: u16, to: u16) -> bool
-    ensures { result ≡ is_wanted port to }
+fn is_to_port(port: u16, to: u16) -> bool
+    ensures { result ≡ is_to_port port to }
 {
     port == 0 || to == port
 }
@@ -173,7 +173,7 @@ fn is_udp_for(port: u16, datagram: &[u8]) -> bool
         return false;
     }
     let length = udp_length(datagram);
-    UDP_BYTES <= length && length <= datagram.len() && is_wanted(port, udp_port(datagram))
+    UDP_BYTES <= length && length <= datagram.len() && is_to_port(port, udp_port(datagram))
 }
 
 /// The payload of the UDP datagram in a part of the bytes.

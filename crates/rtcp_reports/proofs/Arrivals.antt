@@ -2,7 +2,7 @@
 use Rattle.std.proofs.Common.{◌≡◌, ℕ, ◌+◌, ◌-◌, ◌%◌, ◌^◌, ◌<◌, ◌≤◌, max, Bool, true, false, List, [], ◌∷◌, length, refl, ap, ap₂, arith, inl, inr}
 use Rattle.std.proofs.lemmas.Bool.{cases_lt, lt-ltb, le-ltb, eq-eqb}
 use Rattle.rtcp_reports.proofs.Judging.{ordered, late}
-use Rattle.rtcp_reports.specs.Tracks.{Tracked, fresh, restarted, packet_counted, wrapped, tried, advanced, sequenced, update_counted, updated, extended, expected, loss, block_of, Arrive, tracked_on, tracked_from, greatest_of}
+use Rattle.rtcp_reports.specs.Tracks.{Tracked, fresh, restarted, packet_counted, wrapped, tried, advanced, sequenced, update_counted, updated, extended, expected, loss, block_of, Arrive, tracked_on, tracked_from, highest_of}
 
 -- ---- one packet
 
@@ -65,7 +65,7 @@ one_more t first greatest count number s low high = elim (cases_lt number greate
       rw (order, same) (forward t first greatest count number s above high)
 ]
 
-all_stand : (t : Tracked) (first greatest count : ℕ) (numbers : List ℕ) → Stands t first greatest count → Arrive greatest numbers → Stands (tracked_on t numbers) first (greatest_of greatest numbers) (count + length numbers)
+all_stand : (t : Tracked) (first greatest count : ℕ) (numbers : List ℕ) → Stands t first greatest count → Arrive greatest numbers → Stands (tracked_on t numbers) first (highest_of greatest numbers) (count + length numbers)
 all_stand t first greatest count [] s arrive = let e : count + 0 ≡ count = omega arith in rw e s
 all_stand t first greatest count (number ∷ numbers) s arrive =
     let more = one_more t first greatest count number s arrive.0 arrive.1 in
@@ -92,7 +92,7 @@ tried_twice t first p g =
       above = omega arith;
     })
 
-stands : (first : ℕ) (numbers : List ℕ) → Arrive (first + 1) numbers → Stands (tracked_from first ((first + 1) ∷ numbers)) (first + 1) (greatest_of (first + 1) numbers) (1 + length numbers)
+stands : (first : ℕ) (numbers : List ℕ) → Arrive (first + 1) numbers → Stands (tracked_from first ((first + 1) ∷ numbers)) (first + 1) (highest_of (first + 1) numbers) (1 + length numbers)
 stands first numbers arrive =
     let once : Tracked = record (update_counted (fresh (first % 65536))) { probation = 1; greatest = first % 65536 } in
     let two = all_stand (updated once ((first + 1) % 65536)).0 (first + 1) (first + 1) 1 numbers (tried_twice once first refl refl) arrive in
@@ -103,9 +103,9 @@ stands first numbers arrive =
 pub ends_probation : (first : ℕ) (numbers : List ℕ) → Arrive (first + 1) numbers → (tracked_from first ((first + 1) ∷ numbers)).probation ≡ 0
 ends_probation first numbers arrive = (stands first numbers arrive).probation
 
-highest_of : (ssrc : ℕ) (t : Tracked) (first greatest count : ℕ) → Stands t first greatest count → (block_of ssrc t).highest ≡ (greatest - first + first % 65536) % 2 ^ 32
+highest_where : (ssrc : ℕ) (t : Tracked) (first greatest count : ℕ) → Stands t first greatest count → (block_of ssrc t).highest ≡ (greatest - first + first % 65536) % 2 ^ 32
 unfolding block_of
-highest_of ssrc t first greatest count s =
+highest_where ssrc t first greatest count s =
     let e : extended t ≡ greatest - first + first % 65536 = omega (arith, s.counts, s.above) in
     ap (λ (n : ℕ). n % 2 ^ 32) e
 
@@ -115,8 +115,8 @@ lost_of ssrc t first greatest count s =
     let e : expected t ≡ greatest - first + 1 = omega (arith, s.counts, s.base, s.above) in
     ap₂ loss e s.received
 
-pub highest_is : (ssrc first : ℕ) (numbers : List ℕ) → Arrive (first + 1) numbers → (block_of ssrc (tracked_from first ((first + 1) ∷ numbers))).highest ≡ (greatest_of (first + 1) numbers - (first + 1) + (first + 1) % 65536) % 2 ^ 32
-highest_is ssrc first numbers arrive = highest_of ssrc _ _ _ _ (stands first numbers arrive)
+pub highest_is : (ssrc first : ℕ) (numbers : List ℕ) → Arrive (first + 1) numbers → (block_of ssrc (tracked_from first ((first + 1) ∷ numbers))).highest ≡ (highest_of (first + 1) numbers - (first + 1) + (first + 1) % 65536) % 2 ^ 32
+highest_is ssrc first numbers arrive = highest_where ssrc _ _ _ _ (stands first numbers arrive)
 
-pub lost_is : (ssrc first : ℕ) (numbers : List ℕ) → Arrive (first + 1) numbers → (block_of ssrc (tracked_from first ((first + 1) ∷ numbers))).lost ≡ loss (greatest_of (first + 1) numbers - (first + 1) + 1) (1 + length numbers)
+pub lost_is : (ssrc first : ℕ) (numbers : List ℕ) → Arrive (first + 1) numbers → (block_of ssrc (tracked_from first ((first + 1) ∷ numbers))).lost ≡ loss (highest_of (first + 1) numbers - (first + 1) + 1) (1 + length numbers)
 lost_is ssrc first numbers arrive = lost_of ssrc _ _ _ _ (stands first numbers arrive)

@@ -1,7 +1,7 @@
 -- What is kept goes on being counted within its bounds.
 use Rattle.std.proofs.Common.{◌≡◌, ◌≢◌, ℕ, ◌+◌, ◌^◌, ◌<◌, ◌≤◌, refl, sym, subst, arith, inl, inr}
 use Rattle.std.proofs.lemmas.Bool.{cases_lt, lt-ltb, le-ltb}
-use Rattle.rtcp_reports.specs.Tracks.{Tracked, restarted, packet_counted, wrapped, update_counted, expected}
+use Rattle.rtcp_reports.specs.Tracks.{Tracked, restarted, packet_counted, wrapped, update_counted}
 use Rattle.rtcp_reports.specs.Views.{HasCounted}
 
 -- ---- an update
@@ -85,17 +85,6 @@ module _ (t s : Tracked) (number : ℕ) (is : t ≡ s) (some : 1 ≤ s.updates) 
 
 -- ---- on probation
 
-pub counted-trying : (t : Tracked) (number probation : ℕ) → HasCounted t → probation ≢ 0 → HasCounted (record t { probation = probation; greatest = number })
-counted-trying t number probation h some = record {
-  updates = h.updates;
-  cycles = h.cycles;
-  received = h.received;
-  received_prior = h.received_prior;
-  base = λ out. absurd (some out);
-  expected_prior = λ out. absurd (some out);
-  came = λ out. absurd (some out);
-}
-
 -- of a source of which no packet has come
 pub counted-fresh : (t : Tracked) → t.updates ≡ 0 → t.cycles ≡ 0 → t.received ≡ 0 → t.received_prior ≡ 0 → t.probation ≢ 0 → HasCounted t
 counted-fresh t updates cycles received prior some = record {
@@ -109,14 +98,3 @@ counted-fresh t updates cycles received prior some = record {
 }
 
 -- ---- a report
-
-pub counted-reported : (t : Tracked) (due : ℕ) → HasCounted t → due ≡ expected t → HasCounted (record t { expected_prior = due; received_prior = t.received })
-counted-reported t due h is = record {
-  updates = h.updates;
-  cycles = h.cycles;
-  received = h.received;
-  received_prior = omega arith;
-  base = h.base;
-  expected_prior = λ out. omega (arith, is);
-  came = λ out. omega (arith, is);
-}

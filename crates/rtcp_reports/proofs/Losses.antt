@@ -1,35 +1,8 @@
 -- What a report says: the loss, held within 24 bits, the share of an interval, and the block of both.
-use Rattle.std.proofs.Common.{◌≡◌, ℕ, ◌+◌, ◌-◌, ◌*◌, ◌/◌, ◌%◌, ◌^◌, ◌<◌, ◌≤◌, ℤ, pos, neg_ℤ, ◌≤ℤ◌, refl, subst, arith}
-use Rattle.std.specs.Prelude.{◌==◌, nat_le}
-use Rattle.std.proofs.lemmas.Bool.{le-leb, lt-leb, ne_eqb, eq-eqb, or_right, or_from}
-use Rattle.std.proofs.lemmas.Int.{ints, clamps}
-use Rattle.std.proofs.lemmas.Nat.{div_below}
-use Rattle.rtcp_reports.specs.Rtcp.{LossFits}
+use Rattle.std.proofs.Common.{◌≡◌, ℕ, ◌+◌, ◌-◌, ◌%◌, ◌^◌, ℤ, refl, subst}
+use Rattle.std.proofs.lemmas.Bool.{ne_eqb, eq-eqb}
 use Rattle.rtcp_reports.specs.Tracks.{Tracked, loss, fraction, block_of, reported}
 use Rattle.rtcp_reports.specs.declared.block.Block.{Block}
-
--- ---- the loss
-
-least_loss : (due came : ℕ) → neg_ℤ (pos 8388608) ≤ℤ loss due came
-least_loss due came = omega (arith, ints, clamps)
-
-most_loss : (due came : ℕ) → loss due came ≤ℤ pos 8388607
-most_loss due came = omega (arith, ints, clamps)
-
-pub loss_fits : (block : Block) (due came : ℕ) → block.lost ≡ loss due came → LossFits block
-loss_fits block due came is = record { least = rw is (least_loss due came); most = rw is (most_loss due came) }
-
--- ---- the share
-
-pub share_fits : (due came : ℕ) → came < due → 0 < came → 256 * (due - came) / due < 256
-share_fits due came lost some = div_below (256 * (due - came)) due 256 (omega arith) (omega arith)
-
-pub none_lost : (due came : ℕ) → due ≤ came → 0 ≡ fraction due came
-none_lost due came few = rw (or_right (due == 0) (nat_le due came) (le-leb due came few)) refl
-
-pub some_lost : (due came : ℕ) → came < due → 256 * (due - came) / due ≡ fraction due came
-some_lost due came more =
-    rw (or_from (due == 0) (nat_le due came) (ne_eqb due 0 (λ none. omega arith)) (lt-leb due came more)) refl
 
 -- ---- the block
 

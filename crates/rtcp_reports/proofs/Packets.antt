@@ -3,22 +3,9 @@ use Rattle.std.proofs.Common.{◌≡◌, ◌≢◌, ℕ, ◌<◌, ◌≤◌, tru
 use Rattle.std.proofs.lemmas.Bool.{lt-ltb, le-ltb, ne_eqb}
 use Rattle.link_model.specs.Packets.{version}
 use Rattle.rtcp_reports.specs.Rtcp.{packet_size, whole_packet, is_report, report_room, report_size}
-use Rattle.rtcp_reports.specs.declared.refusal.RtcpRefusal.TheVariants.{Short, Length, Version, First}
+use Rattle.rtcp_reports.specs.declared.refusal.RtcpRefusal.TheVariants.{Short, Version, First}
 
 -- ---- any packet
-
-pub packet_short : (bytes : List ℕ) → length bytes < 4 → whole_packet bytes ≡ Err Length
-unfolding whole_packet
-packet_short bytes few = rw (lt-ltb (length bytes) 4 few) refl
-
-pub packet_other : (bytes : List ℕ) → 4 ≤ length bytes → version bytes ≢ 2 → whole_packet bytes ≡ Err Version
-unfolding whole_packet
-packet_other bytes long other = rw (le-ltb (length bytes) 4 long, ne_eqb (version bytes) 2 other) refl
-
-pub packet_cut : (bytes : List ℕ) → 4 ≤ length bytes → version bytes ≡ 2 → length bytes < packet_size bytes → whole_packet bytes ≡ Err Length
-unfolding whole_packet
-packet_cut bytes long two cut =
-    rw (le-ltb (length bytes) 4 long, two, lt-ltb (length bytes) (packet_size bytes) cut) refl
 
 pub packet_whole : (bytes : List ℕ) (size : ℕ) → 4 ≤ length bytes → version bytes ≡ 2 → packet_size bytes ≡ size → size ≤ length bytes → whole_packet bytes ≡ Ok size
 unfolding whole_packet
@@ -38,16 +25,6 @@ report_other bytes long other = rw (le-ltb (length bytes) 8 long, ne_eqb (versio
 pub report_none : (bytes : List ℕ) → 8 ≤ length bytes → version bytes ≡ 2 → is_report bytes ≡ false → report_size bytes ≡ Err First
 unfolding report_size
 report_none bytes long two none = rw (le-ltb (length bytes) 8 long, two, none) refl
-
-pub report_cut : (bytes : List ℕ) → 8 ≤ length bytes → version bytes ≡ 2 → is_report bytes ≡ true → length bytes < packet_size bytes → report_size bytes ≡ Err Length
-unfolding report_size
-report_cut bytes long two is cut =
-    rw (le-ltb (length bytes) 8 long, two, is, lt-ltb (length bytes) (packet_size bytes) cut) refl
-
-pub report_narrow : (bytes : List ℕ) → 8 ≤ length bytes → version bytes ≡ 2 → is_report bytes ≡ true → packet_size bytes ≤ length bytes → packet_size bytes < report_room bytes → report_size bytes ≡ Err Length
-unfolding report_size
-report_narrow bytes long two is whole few =
-    rw (le-ltb (length bytes) 8 long, two, is, le-ltb (length bytes) (packet_size bytes) whole, lt-ltb (packet_size bytes) (report_room bytes) few) refl
 
 pub report_whole : (bytes : List ℕ) (size : ℕ) → 8 ≤ length bytes → version bytes ≡ 2 → is_report bytes ≡ true → packet_size bytes ≡ size → size ≤ length bytes → report_room bytes ≤ size → report_size bytes ≡ Ok size
 unfolding report_size

@@ -1,29 +1,15 @@
 -- An accepted report has the room for what it says.
-use Rattle.std.proofs.Common.{◌≡◌, ℕ, ◌+◌, ◌*◌, ◌≤◌, List, length, drop, Option, Some, None, Result, Ok, Err, Bool, true, false, not, nat_lt, ◌==◌, if◌then◌else◌, arith, refl, sym, subst, le_trans}
+use Rattle.std.proofs.Common.{◌≡◌, ℕ, ◌+◌, ◌*◌, ◌≤◌, List, length, drop, Option, Some, None, Result, Ok, Err, Bool, true, false, not, nat_lt, ◌==◌, if◌then◌else◌, refl, sym, subst, le_trans}
 use Rattle.std.specs.Prelude.{is_some}
 use Rattle.std.proofs.lemmas.Bool.{ltb-false}
 use Rattle.link_model.specs.Packets.{version}
 use Rattle.vc_types.specs.Fields.{and_then}
-use Rattle.rtcp_reports.specs.Rtcp.{item_count, packet_size, refusal_in, is_sender_report, is_report, fixed_size, report_room, report_size, sender_info, reported_sender, report_view, unless, compound, blocks_place}
+use Rattle.rtcp_reports.specs.Rtcp.{item_count, packet_size, refusal_in, is_sender_report, is_report, fixed_size, report_room, report_size, sender_info, report_view, unless, compound, blocks_place}
 use Rattle.rtcp_reports.specs.declared.block.SenderInfo.{SenderInfo}
 use Rattle.rtcp_reports.specs.declared.block.CompoundView.{CompoundView}
 use Rattle.rtcp_reports.specs.declared.refusal.RtcpRefusal.{RtcpRefusal}
 use Rattle.rtcp_reports.specs.declared.refusal.RtcpRefusal.TheVariants.{Short, Length, Version, First}
 use Rattle.rtcp_reports.proofs.Testing.{passing}
-
--- ---- what a sender says of itself
-
-pub sender_room : (bytes : List ℕ) → is_sender_report bytes ≡ true → report_room bytes ≤ length bytes → 28 ≤ length bytes
-sender_room bytes is room =
-    let all : fixed_size true + 24 * item_count bytes ≤ length bytes =
-    subst (λ (b : Bool). fixed_size b + 24 * item_count bytes ≤ length bytes) is room in
-    omega arith
-
-pub is_sender : (bytes : List ℕ) → is_sender_report bytes ≡ true → Some (sender_info bytes) ≡ reported_sender bytes
-is_sender bytes is = rw is refl
-
-pub no_sender : (bytes : List ℕ) → is_sender_report bytes ≡ false → None ≡ reported_sender bytes
-no_sender bytes is = rw is refl
 
 -- ---- blocks
 

@@ -92,8 +92,8 @@ with_report r source f = record f {
 abbrev pub reported_at : Reporting → ℕ → Followed → Followed
 reported_at r source f = if f.packets % r.every == 0 then with_report r source f else f
 
-unfoldable pub follows : Reporting → ℕ → Followed → RtpPacket → Followed
-follows r source f p = reported_at r source (with_packet f p)
+unfoldable pub after_packet : Reporting → ℕ → Followed → RtpPacket → Followed
+after_packet r source f p = reported_at r source (with_packet f p)
 
 -- the last report, where packets have come since
 abbrev pub with_last_report : Reporting → ℕ → Followed → Followed
@@ -101,7 +101,8 @@ with_last_report r source f = if f.is_due then with_report r source f else f
 
 abbrev pub reports_on : Reporting → List RtpPacket → List (List ℕ)
 reports_on r [] = []
-reports_on r (p ∷ ps) = (with_last_report r p.ssrc (fold (follows r p.ssrc) (followed_from p) (p ∷ ps))).reports
+reports_on r (p ∷ ps) =
+    (with_last_report r p.ssrc (fold (after_packet r p.ssrc) (followed_from p) (p ∷ ps))).reports
 
 -- the reports on datagrams
 unfoldable pub report_entries : Reporting → List (List ℕ) → List (List ℕ)

@@ -148,5 +148,5 @@ tracked_on t numbers = fold (λ t number. (updated t (number % 65536)).0) t numb
 abbrev pub tracked_from : ℕ → List ℕ → Tracked
 tracked_from first numbers = tracked_on (fresh (first % 65536)) (first ∷ numbers)
 
-abbrev pub greatest_of : ℕ → List ℕ → ℕ
-greatest_of greatest numbers = fold max greatest numbers
+abbrev pub highest_of : ℕ → List ℕ → ℕ
+highest_of greatest numbers = fold max greatest numbers

@@ -1,7 +1,7 @@
 ghost use Rattle.std.specs.Prelude.{◌≡◌, ℕ, ◌+◌, ◌-◌, ◌%◌, ◌^◌, ◌<◌, List, ◌∷◌, length, Some, None, Ok};
 ghost use Rattle.rtcp_reports.specs.Rtcp.{receiver_compound, sender_compound, compound, block_of_report};
 ghost use Rattle.rtcp_reports.specs.Rtcp.{BlockFits, SenderFits, IsName};
-ghost use Rattle.rtcp_reports.specs.Tracks.{Arrive, tracked_from, greatest_of, block_of, loss};
+ghost use Rattle.rtcp_reports.specs.Tracks.{Arrive, tracked_from, highest_of, block_of, loss};
 ghost use Rattle.rtcp_reports.specs.declared.block.Block.{Block};
 ghost use Rattle.rtcp_reports.specs.declared.block.SenderInfo.{SenderInfo};
 
@@ -15,10 +15,10 @@ pub fn tracks_count_what_came()
         → (tracked_from first ((first + 1) ∷ numbers)).probation ≡ 0 }
     ensures highest { (ssrc first : ℕ) (numbers : List ℕ) → Arrive (first + 1) numbers
         → (block_of ssrc (tracked_from first ((first + 1) ∷ numbers))).highest
-        ≡ (greatest_of (first + 1) numbers - (first + 1) + (first + 1) % 65536) % 2 ^ 32 }
+        ≡ (highest_of (first + 1) numbers - (first + 1) + (first + 1) % 65536) % 2 ^ 32 }
     ensures lost { (ssrc first : ℕ) (numbers : List ℕ) → Arrive (first + 1) numbers
         → (block_of ssrc (tracked_from first ((first + 1) ∷ numbers))).lost
-        ≡ loss (greatest_of (first + 1) numbers - (first + 1) + 1) (1 + length numbers) }
+        ≡ loss (highest_of (first + 1) numbers - (first + 1) + 1) (1 + length numbers) }
 {}
 
 /// What is written is read back: who reports, what a sender says of itself, and a block.

@@ -6,7 +6,7 @@ use Rattle.std.proofs.lemmas.Nat.{mul-add-lt, same_from_place}
 use Rattle.vc_types.specs.Lifting.{line_of}
 use Rattle.vc_types.specs.Rasters.{Lattice}
 use Rattle.vc_types.specs.Transforms.{Cells}
-use Rattle.vc_lowdelay.specs.Bands.{AreSmallValues, HasValues, number_in, prediction_in, value_in}
+use Rattle.vc_lowdelay.specs.Bands.{AreSmallValues, HasValues, index_of_place, prediction_in, value_in}
 use Rattle.vc_lowdelay.specs.LowDelay.{mean_of, first_row, next_row, grown_row, predicted}
 
 -- ---- each value grows by its prediction
@@ -65,8 +65,8 @@ module _ (cells : Cells) (w h : ℕ) where
     pub one_more : (x y : ℕ) (new : Lattice) (value : ℤ) → x < w → y < h → done ≡ y * w + x
         → value ≡ value_in band x y +ℤ prediction_in (value_in band) x y → unsigned_abs value < 2 ^ 60
         → new.width ≡ band.width → new.height ≡ band.height
-        → line_of new.cells (number_in band (x, y)) ≡ value
-        → ((k : ℕ) → k ≢ number_in band (x, y) → line_of new.cells k ≡ line_of band.cells k)
+        → line_of new.cells (index_of_place band (x, y)) ≡ value
+        → ((k : ℕ) → k ≢ index_of_place band (x, y) → line_of new.cells k ≡ line_of band.cells k)
         → GrownTo (done + 1) new
     one_more x y new value hx hy e is own wide high on off = record {
       width = wide ∙ to.width;
@@ -85,7 +85,7 @@ module _ (cells : Cells) (w h : ℕ) where
       ];
     }
       where
-        number : number_in band (x, y) ≡ y * w + x
+        number : index_of_place band (x, y) ≡ y * w + x
         number = ap (λ (n : ℕ). y * n + x) to.width
 
         here : line_of new.cells (y * w + x) ≡ value

@@ -29,7 +29,7 @@ use Rattle.vc_lowdelay.specs.InRoom.{AreKeptPlanes, HasCells, HoldsPicture}
 use Rattle.vc_lowdelay.specs.LowDelay.{low_plane, low_planes, low_planes_of, low_slices, lowest_values, predicted, predicted_cells}
 use Rattle.vc_lowdelay.specs.Narrow.{GrowsLowest, HoldsGrown, kept_cells}
 use Rattle.vc_lowdelay.specs.Narrow as narrow
-use Rattle.vc_lowdelay.specs.OfPlan.{low_parameters_of, picture_bytes}
+use Rattle.vc_lowdelay.specs.OfPlan.{low_parameters_of, picture_size}
 use Rattle.vc_lowdelay.proofs.Decodings.{ok_same}
 use Rattle.vc_lowdelay.proofs.LowAnswers.{is_decoded}
 use Rattle.vc_lowdelay.proofs.PredictedCells.{within_true, within_false}
@@ -100,7 +100,7 @@ module _ (p : LowPlan) (bytes : List ℕ) where
 
   -- ---- the picture
 
-  pub decodable : picture_bytes p ≤ length bytes → (y c1 c2 ys us vs : List ℤ) → AllAreIn own slices y c1 c2
+  pub decodable : picture_size p ≤ length bytes → (y c1 c2 ys us vs : List ℤ) → AllAreIn own slices y c1 c2
       → GrowsLowest own Y y ys → GrowsLowest own C1 c1 us → GrowsLowest own C2 c2 vs → IsDecodable (low_parameters_of p) bytes
   decodable whole y c1 c2 ys us vs all gy g1 g2 = record {
     whole = whole;

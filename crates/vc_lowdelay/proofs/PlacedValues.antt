@@ -13,9 +13,9 @@ use Rattle.vc_types.specs.TransformParameters.{Parameters}
 use Rattle.vc_types.specs.Transforms.{lowest_width, lowest_height}
 use Rattle.vc_types.proofs.RectangleCells.{place_in-inside, same_place}
 use Rattle.picture_build.specs.Kept.{no_coefficients}
-use Rattle.picture_build.proofs.Placements.{places-apart}
+use Rattle.vc_geometry.proofs.Placements.{places-apart}
 use Rattle.picture_build.proofs.Standing.{component_cells-met}
-use Rattle.vc_lowdelay.specs.Bands.{AreSmallValues, HasValues, IsLowest, lowest_rectangle, number_in}
+use Rattle.vc_lowdelay.specs.Bands.{AreSmallValues, HasValues, IsLowest, lowest_rectangle, index_of_place}
 use Rattle.vc_lowdelay.specs.Placed.{Places}
 use Rattle.vc_lowdelay.proofs.LowestPlaces.{lowest_within, lowest_place, lowest_right, lowest_bottom, lowest_met}
 
@@ -27,7 +27,7 @@ module _ (p : Parameters) (c : Component) where
   -- the first slices' values stand at their places
   pub record FirstPlaced (values : ℕ → ℕ → ℤ) (n : ℕ) (band : Lattice) : Type 0 where
     pub size : IsLowest p c band
-    pub placed : (s i : ℕ) → s < n → i < area (lowest_rectangle p c s) → line_of band.cells (number_in band (place_in (lowest_rectangle p c s) i)) ≡ values s i
+    pub placed : (s i : ℕ) → s < n → i < area (lowest_rectangle p c s) → line_of band.cells (index_of_place band (place_in (lowest_rectangle p c s) i)) ≡ values s i
     pub small : (s i : ℕ) → s < n → i < area (lowest_rectangle p c s) → unsigned_abs (values s i) < 2 ^ 60
 
   pub none_placed : (values : ℕ → ℕ → ℤ) (band : Lattice) → IsLowest p c band → FirstPlaced values 0 band
@@ -53,7 +53,7 @@ module _ (p : Parameters) (c : Component) (some_across : 0 < p.slices_x) (some_d
       (lowest_place p c s i hi ∙ e ∙ sym (lowest_place p c t j hj))
 
   numbers_apart : (band : Lattice) → IsLowest p c band → (s i t j : ℕ) → s < slice_count p → i < area (lowest_rectangle p c s) → t < slice_count p → j < area (lowest_rectangle p c t)
-      → number_in band (place_in (lowest_rectangle p c s) i) ≡ number_in band (place_in (lowest_rectangle p c t) j) → (s ≡ t) × (i ≡ j)
+      → index_of_place band (place_in (lowest_rectangle p c s) i) ≡ index_of_place band (place_in (lowest_rectangle p c t) j) → (s ≡ t) × (i ≡ j)
   numbers_apart band size s i t j hs hi ht hj e =
       let a = place_in (lowest_rectangle p c s) i in
       let b = place_in (lowest_rectangle p c t) j in
@@ -72,17 +72,17 @@ module _ (p : Parameters) (c : Component) (some_across : 0 < p.slices_x) (some_d
     ];
   }
     where
-      number : (s i : ℕ) → line_of new.cells (number_in new (place_in (lowest_rectangle p c s) i)) ≡ line_of new.cells (number_in old (place_in (lowest_rectangle p c s) i))
+      number : (s i : ℕ) → line_of new.cells (index_of_place new (place_in (lowest_rectangle p c s) i)) ≡ line_of new.cells (index_of_place old (place_in (lowest_rectangle p c s) i))
       number s i = ap (λ (w : ℕ). line_of new.cells ((place_in (lowest_rectangle p c s) i).1 * w + (place_in (lowest_rectangle p c s) i).0)) own.width
 
-      at : (s i : ℕ) → s < n + 1 → i < area (lowest_rectangle p c s) → line_of new.cells (number_in old (place_in (lowest_rectangle p c s) i)) ≡ values s i
+      at : (s i : ℕ) → s < n + 1 → i < area (lowest_rectangle p c s) → line_of new.cells (index_of_place old (place_in (lowest_rectangle p c s) i)) ≡ values s i
       at s i h below = elim (cases_eq s n) [
         | inl e ↦
-            ap (λ (k : ℕ). line_of new.cells (number_in old (place_in (lowest_rectangle p c k) i))) e
+            ap (λ (k : ℕ). line_of new.cells (index_of_place old (place_in (lowest_rectangle p c k) i))) e
             ∙ own.on i (subst (λ (k : ℕ). i < area (lowest_rectangle p c k)) e below)
             ∙ ap (λ (k : ℕ). values k i) (sym e)
         | inr ne ↦
-            own.off (number_in old (place_in (lowest_rectangle p c s) i))
+            own.off (index_of_place old (place_in (lowest_rectangle p c s) i))
             (λ j here e. ne (numbers_apart old first.size s i n j (omega (arith, h, numbered)) below numbered here e).0)
             ∙ first.placed s i (omega (arith, h)) below
       ]
@@ -116,7 +116,7 @@ module _ (p : Parameters) (c : Component) (some_across : 0 < p.slices_x) (some_d
     pub all_placed : (band : Lattice) → FirstPlaced p c own_values (slice_count p) band → HasValues (component_cells p c slices) band
     all_placed band first x y ha hb =
         let met = lowest_met p c x y (omega (arith, first.size.width, ha)) (omega (arith, first.size.height, hb)) some_across some_down in
-        ap (λ (q : Place). line_of band.cells (number_in band q)) (sym met.place)
+        ap (λ (q : Place). line_of band.cells (index_of_place band q)) (sym met.place)
         ∙ first.placed met.slice met.number met.numbered met.below
         ∙ sym (lowest_cell met.slice met.number met.numbered met.below)
         ∙ ap (λ (q : Place). component_cells p c slices q.0 q.1) met.place
@@ -125,5 +125,5 @@ module _ (p : Parameters) (c : Component) (some_across : 0 < p.slices_x) (some_d
     all_small band first x y ha hb =
         let met = lowest_met p c x y (omega (arith, first.size.width, ha)) (omega (arith, first.size.height, hb)) some_across some_down in
         subst (λ (z : ℤ). unsigned_abs z < 2 ^ 60)
-        (sym (first.placed met.slice met.number met.numbered met.below) ∙ ap (λ (q : Place). line_of band.cells (number_in band q)) met.place)
+        (sym (first.placed met.slice met.number met.numbered met.below) ∙ ap (λ (q : Place). line_of band.cells (index_of_place band q)) met.place)
         (first.small met.slice met.number met.numbered met.below)

@@ -7,7 +7,7 @@ use Rattle.vc_types.specs.Limits.{slices_fit}
 use Rattle.vc_types.proofs.SliceCounts.{some_across, some_down}
 use Rattle.vc_lowdelay.specs.declared.plan.LowPlan.{LowPlan}
 use Rattle.vc_lowdelay.specs.LowDelay.{low_slice_start}
-use Rattle.vc_lowdelay.specs.OfPlan.{picture_bytes, slice_bytes, slice_count, slice_start}
+use Rattle.vc_lowdelay.specs.OfPlan.{picture_size, slice_count, slice_size, slice_start}
 
 -- ---- the slices of a plan
 
@@ -65,22 +65,22 @@ few_bytes slice n h small = let most = mul-le slice n 131072 (2 ^ 32) h (omega a
 
 -- ---- a slice of a plan, in its bytes
 
-module _ (p : LowPlan) (slice : ℕ) (bytes : List ℕ) (numbered : slice < slice_count p) (whole : picture_bytes p ≤ length bytes) where
+module _ (p : LowPlan) (slice : ℕ) (bytes : List ℕ) (numbered : slice < slice_count p) (whole : picture_size p ≤ length bytes) where
   pub in_order : slice_start p slice + 1 ≤ slice_start p (slice + 1)
   in_order = one_more p.numerator p.denominator (some_in_plan p) slice p.some_bytes
 
   pub inside : slice_start p (slice + 1) ≤ length bytes
   inside = let up = starts_rise p.numerator p.denominator (some_in_plan p) (slice + 1) (slice_count p) (omega (arith, numbered)) in omega (arith, up, whole)
 
-  length-slice : length (take (slice_bytes p slice) (drop (slice_start p slice) bytes)) ≡ slice_bytes p slice
+  length-slice : length (take (slice_size p slice) (drop (slice_start p slice) bytes)) ≡ slice_size p slice
   length-slice =
       let behind = length-drop (slice_start p slice) bytes in
-      length-take-le (slice_bytes p slice) (drop (slice_start p slice) bytes) (omega (arith, behind, in_order, inside))
+      length-take-le (slice_size p slice) (drop (slice_start p slice) bytes) (omega (arith, behind, in_order, inside))
 
-  pub some_in_slice : 1 ≤ length (take (slice_bytes p slice) (drop (slice_start p slice) bytes))
+  pub some_in_slice : 1 ≤ length (take (slice_size p slice) (drop (slice_start p slice) bytes))
   some_in_slice = omega (arith, length-slice, in_order)
 
-  pub few_in_slice : length (take (slice_bytes p slice) (drop (slice_start p slice) bytes)) ≤ 2 ^ 16
+  pub few_in_slice : length (take (slice_size p slice) (drop (slice_start p slice) bytes)) ≤ 2 ^ 16
   few_in_slice = let few = few_more p.numerator p.denominator (some_in_plan p) slice in omega (arith, length-slice, few, p.few_bytes)
 
 pub part_is : (bytes : List ℕ) (a b from to : ℕ) → a ≡ from → b ≡ to → take (b - a) (drop a bytes) ≡ take (to - from) (drop from bytes)

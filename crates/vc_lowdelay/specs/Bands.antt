@@ -11,13 +11,13 @@ use Rattle.vc_types.specs.TransformParameters.{Parameters}
 use Rattle.vc_types.specs.Transforms.{Cells, lowest_width, lowest_height}
 use Rattle.vc_lowdelay.specs.LowDelay.{mean_of, predicted}
 
--- the number of a place
-abbrev pub number_in : Lattice → Place → ℕ
-number_in band place = place.1 * band.width + place.0
+-- the number of a place among the values
+abbrev pub index_of_place : Lattice → Place → ℕ
+index_of_place band place = place.1 * band.width + place.0
 
 -- the value in column x and row y
 abbrev pub value_in : Lattice → Cells
-value_in band x y = line_of band.cells (number_in band (x, y))
+value_in band x y = line_of band.cells (index_of_place band (x, y))
 
 -- what is predicted of the value in column x and row y, from values that have grown
 unfoldable pub prediction_in : Cells → ℕ → ℕ → ℤ

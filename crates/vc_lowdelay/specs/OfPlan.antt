@@ -19,12 +19,12 @@ slice_count p = subbands.slice_count (parameters_of p.plan)
 abbrev pub slice_start : LowPlan → ℕ → ℕ
 slice_start p = low.low_slice_start p.numerator p.denominator
 
-abbrev pub slice_bytes : LowPlan → ℕ → ℕ
-slice_bytes p = low.low_slice_bytes p.numerator p.denominator
+abbrev pub slice_size : LowPlan → ℕ → ℕ
+slice_size p = low.low_slice_bytes p.numerator p.denominator
 
 -- how many bytes all slices have
-abbrev pub picture_bytes : LowPlan → ℕ
-picture_bytes p = slice_start p (slice_count p)
+abbrev pub picture_size : LowPlan → ℕ
+picture_size p = slice_start p (slice_count p)
 
 -- a wavelet and a depth, across as down
 abbrev pub transform_of : ℕ → ℕ → Transform

@@ -10,7 +10,7 @@ use Rattle.vc_types.specs.Slices.{is_large}
 use Rattle.vc_types.specs.Subbands.{area, place_in}
 use Rattle.vc_types.specs.TransformParameters.{Parameters}
 use Rattle.vc_golomb.specs.Numbers.{number_at}
-use Rattle.vc_lowdelay.specs.Bands.{lowest_rectangle, number_in}
+use Rattle.vc_lowdelay.specs.Bands.{lowest_rectangle, index_of_place}
 use Rattle.vc_lowdelay.specs.LowDelay.{LowSlice, low_coefficients}
 
 -- The first values of a function stand at the slice's places in LL of a component, none of them is
@@ -20,11 +20,11 @@ pub record Places (p : Parameters) (c : Component) (slice : ℕ) (values : ℕ �
   pub width : new.width ≡ old.width
   pub height : new.height ≡ old.height
   pub on : (i : ℕ) → i < area (lowest_rectangle p c slice)
-      → line_of new.cells (number_in old (place_in (lowest_rectangle p c slice) i)) ≡ values i
+      → line_of new.cells (index_of_place old (place_in (lowest_rectangle p c slice) i)) ≡ values i
   pub small : (i : ℕ) → i < area (lowest_rectangle p c slice) → unsigned_abs (values i) < 2 ^ 60
   pub off : (k : ℕ)
       → ((i : ℕ) → i < area (lowest_rectangle p c slice)
-      → k ≢ number_in old (place_in (lowest_rectangle p c slice) i))
+      → k ≢ index_of_place old (place_in (lowest_rectangle p c slice) i))
       → line_of new.cells k ≡ line_of old.cells k
 
 -- coefficient i of a component in a slice

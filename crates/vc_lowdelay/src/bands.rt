@@ -8,7 +8,8 @@ ghost use Rattle.vc_types.specs.TransformParameters.{parameters_of};
 ghost use Rattle.vc_types.specs.Transforms.{lowest_width, lowest_height};
 ghost use Rattle.vc_lowdelay.specs.LowDelay.{mean_of, predicted};
 ghost use Rattle.vc_lowdelay.specs.Bands.{AreSmallValues, HasLargeValue, HasValues, IsLowest};
-ghost use Rattle.vc_lowdelay.specs.Bands.{grown_value, lowest_rectangle, number_in, prediction_in, value_in};
+ghost use Rattle.vc_lowdelay.specs.Bands.{grown_value, index_of_place, lowest_rectangle, prediction_in};
+ghost use Rattle.vc_lowdelay.specs.Bands.{value_in};
 ghost use Rattle.vc_lowdelay.specs.Narrow.{GrowsLowest, HasPaddedSize, cells_of, kept_cells};
 
 use crate::refusal::{LargeValue, NarrowFault};
@@ -127,8 +128,8 @@ impl LowestBand {
         requires across { x < self.old.width }
         requires down { y < self.old.height }
         ensures size { (self.new.width ≡ self.old.width) × (self.new.height ≡ self.old.height) }
-        ensures on { line_of self.new.cells (number_in self.old (x, y)) ≡ value }
-        ensures off { (k : ℕ) → k ≢ number_in self.old (x, y)
+        ensures on { line_of self.new.cells (index_of_place self.old (x, y)) ≡ value }
+        ensures off { (k : ℕ) → k ≢ index_of_place self.old (x, y)
             → line_of self.new.cells k ≡ line_of self.old.cells k }
     {
         let place = y as usize * self.width as usize + x as usize;

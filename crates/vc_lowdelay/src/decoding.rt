@@ -7,7 +7,7 @@ ghost use Rattle.vc_lowdelay.specs.Grown.{grown_slices};
 ghost use Rattle.vc_lowdelay.specs.LowDelay.{low_planes, low_slices};
 ghost use Rattle.vc_lowdelay.specs.InRoom.{HoldsPicture};
 ghost use Rattle.vc_lowdelay.specs.OfBands.{AreLowest};
-ghost use Rattle.vc_lowdelay.specs.OfPlan.{low_parameters_of, picture_bytes, slice_count};
+ghost use Rattle.vc_lowdelay.specs.OfPlan.{low_parameters_of, picture_size, slice_count};
 ghost use Rattle.vc_lowdelay.specs.Refusals.{IsRefusalFor, IsRefusalOf};
 
 use crate::bands::{LowestBands, grow_lowest};
@@ -33,7 +33,7 @@ pub fn decode_low(alloc: Global, p: &LowPlan, bytes: &[u8]) -> Result<[Plane; 3]
         (λ planes. low_planes (low_parameters_of p.now) bytes.now ≡ Ok (planes_in planes)) }
     ensures refused { IfErr result (IsRefusalOf (low_parameters_of p.now) bytes.now) }
 {
-    if (bytes.len() as u64) < p.picture_bytes() {
+    if (bytes.len() as u64) < p.picture_size() {
         return Err(LowRefusal::Short);
     }
     let mut room = LowRoom::new(alloc);
@@ -44,22 +44,7 @@ pub fn decode_low(alloc: Global, p: &LowPlan, bytes: &[u8]) -> Result<[Plane; 3]
     }
 }
 
-/// The same, where luma is transformed beside the colours, by join.
-pub fn decode_low_joined<H: Threads + Copy + Send + Sync>(
-    rt: H,
-    alloc: Global,
-    p: &LowPlan,
-    bytes: &[u8],
-) -> Result<[Plane; 3], LowRefusal>
-    ensures value { IfOk result
-        (λ planes. low_planes (low_parameters_of p.now) bytes.now ≡ Ok (planes_in planes)) }
-    ensures refused { IfErr result (IsRefusalOf (low_parameters_of p.now) bytes.now) }
-{
-    let mut room = LowRoom::new(alloc);
-    decode_low_kept(rt, alloc, p, bytes, &mut room)
-}
-
-/// The same again, in memory that is kept from picture to picture.
+/// The same, transformed in parts side by side, by joins, in memory that is kept from picture to picture.
 pub fn decode_low_kept<H: Threads + Copy + Send + Sync>(
     rt: H,
     alloc: Global,
@@ -71,7 +56,7 @@ pub fn decode_low_kept<H: Threads + Copy + Send + Sync>(
         (λ planes. low_planes (low_parameters_of p.now) bytes.now ≡ Ok (planes_in planes)) }
     ensures refused { IfErr result (IsRefusalOf (low_parameters_of p.now) bytes.now) }
 {
-    if (bytes.len() as u64) < p.picture_bytes() {
+    if (bytes.len() as u64) < p.picture_size() {
         return Err(LowRefusal::Short);
     }
     match narrow_planes_joined(rt, alloc, p, bytes, room) {
@@ -88,7 +73,7 @@ fn narrow_planes(
     bytes: &[u8],
     room: &mut LowRoom,
 ) -> Result<[Plane; 3], NarrowFault>
-    requires whole { picture_bytes p.now ≤ length bytes.now }
+    requires whole { picture_size p.now ≤ length bytes.now }
     ensures value { IfOk result
         (λ planes. low_planes (low_parameters_of p.now) bytes.now ≡ Ok (planes_in planes)) }
 {
@@ -104,7 +89,7 @@ fn narrow_planes_joined<H: Threads + Copy + Send + Sync>(
     bytes: &[u8],
     room: &mut LowRoom,
 ) -> Result<[Plane; 3], NarrowFault>
-    requires whole { picture_bytes p.now ≤ length bytes.now }
+    requires whole { picture_size p.now ≤ length bytes.now }
     ensures value { IfOk result
         (λ planes. low_planes (low_parameters_of p.now) bytes.now ≡ Ok (planes_in planes)) }
 {
@@ -119,7 +104,7 @@ fn put_cells(
     bytes: &[u8],
     room: &mut LowRoom,
 ) -> Result<(), NarrowFault>
-    requires whole { picture_bytes p.now ≤ length bytes.now }
+    requires whole { picture_size p.now ≤ length bytes.now }
     ensures { OnOk result (HoldsPicture p.now bytes.now room.new) }
 {
     room.fit(alloc, &p.plan)?;
@@ -132,7 +117,7 @@ fn put_cells(
 
 // The planes of a picture, whatever its coefficients.
 fn wide_planes(alloc: Global, p: &LowPlan, bytes: &[u8]) -> Result<[Plane; 3], LowRefusal>
-    requires whole { picture_bytes p.now ≤ length bytes.now }
+    requires whole { picture_size p.now ≤ length bytes.now }
     ensures value { IfOk result
         (λ planes. low_planes (low_parameters_of p.now) bytes.now ≡ Ok (planes_in planes)) }
     ensures refused { IfErr result (IsRefusalOf (low_parameters_of p.now) bytes.now) }
@@ -148,7 +133,7 @@ fn wide_planes_joined<H: Threads + Copy + Send + Sync>(
     p: &LowPlan,
     bytes: &[u8],
 ) -> Result<[Plane; 3], LowRefusal>
-    requires whole { picture_bytes p.now ≤ length bytes.now }
+    requires whole { picture_size p.now ≤ length bytes.now }
     ensures value { IfOk result
         (λ planes. low_planes (low_parameters_of p.now) bytes.now ≡ Ok (planes_in planes)) }
     ensures refused { IfErr result (IsRefusalOf (low_parameters_of p.now) bytes.now) }
@@ -159,7 +144,7 @@ fn wide_planes_joined<H: Threads + Copy + Send + Sync>(
 
 // A picture that all slices of these bytes came to, with LL as it has grown.
 fn filled(alloc: Global, p: &LowPlan, bytes: &[u8]) -> Result<PictureBuilder, LowRefusal>
-    requires whole { picture_bytes p.now ≤ length bytes.now }
+    requires whole { picture_size p.now ≤ length bytes.now }
     ensures value { IfOk result (λ picture. picture ≡ all_slices (parameters_of p.now.plan)
         (grown_slices (parameters_of p.now.plan) (low_slices (low_parameters_of p.now) bytes.now))) }
     ensures sound { IfOk result (λ picture. IsDecodable (low_parameters_of p.now) bytes.now) }
@@ -183,7 +168,7 @@ fn coefficients(
     lowest: &LowestBands,
 ) -> Result<SliceCoeffs, LowRefusal>
     requires slice { slice < slice_count p.now }
-    requires whole { picture_bytes p.now ≤ length bytes.now }
+    requires whole { picture_size p.now ≤ length bytes.now }
     requires lowest { AreLowest (parameters_of p.now.plan) lowest.now }
     ensures value { IfOk result (IsSliceAt p.now bytes.now slice lowest.now) }
     ensures refused { IfErr result (IsRefusalFor (IsLargeAt p.now bytes.now slice)) }

@@ -14,7 +14,7 @@ mod room;
 mod slice;
 mod wide;
 
-pub use decoding::{decode_low, decode_low_joined, decode_low_kept};
+pub use decoding::{decode_low, decode_low_kept};
 pub use params::read_low_params;
 pub use plan::LowPlan;
 pub use refusal::LowRefusal;

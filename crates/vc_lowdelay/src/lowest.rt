@@ -7,7 +7,7 @@ ghost use Rattle.vc_types.specs.TransformParameters.{parameters_of};
 ghost use Rattle.vc_lowdelay.specs.Bands.{IsGrown, IsLowest, lowest_rectangle};
 ghost use Rattle.vc_lowdelay.specs.Coded.{slice_of};
 ghost use Rattle.vc_lowdelay.specs.LowDelay.{are_large, low_slices};
-ghost use Rattle.vc_lowdelay.specs.OfPlan.{low_parameters_of, picture_bytes};
+ghost use Rattle.vc_lowdelay.specs.OfPlan.{low_parameters_of, picture_size};
 ghost use Rattle.vc_lowdelay.specs.Placed.{coefficient_at, HasLargeIn, Places, ReadsLarge, read_at};
 ghost use Rattle.vc_lowdelay.specs.Refusals.{IsRefusalFor};
 
@@ -26,7 +26,7 @@ pub(crate) fn grown_bands(
     p: &LowPlan,
     bytes: &[u8],
 ) -> Result<LowestBands, LowRefusal>
-    requires { picture_bytes p.now ≤ length bytes.now }
+    requires { picture_size p.now ≤ length bytes.now }
     ensures y { IfOk result (λ bands. IsGrown (parameters_of p.now.plan) Y
         (low_slices (low_parameters_of p.now) bytes.now) bands.y) }
     ensures c1 { IfOk result (λ bands. IsGrown (parameters_of p.now.plan) C1

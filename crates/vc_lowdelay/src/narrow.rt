@@ -11,7 +11,7 @@ ghost use Rattle.vc_lowdelay.specs.Grown.{IsSound};
 ghost use Rattle.vc_lowdelay.specs.LowDelay.{low_coefficients, low_slices};
 ghost use Rattle.vc_lowdelay.specs.InRoom.{HasCells};
 ghost use Rattle.vc_lowdelay.specs.OfBands.{parameters_in, read_in, turn_of, turned_in};
-ghost use Rattle.vc_lowdelay.specs.OfPlan.{low_parameters_of, picture_bytes};
+ghost use Rattle.vc_lowdelay.specs.OfPlan.{low_parameters_of, picture_size};
 
 use crate::plan::LowPlan;
 use crate::refusal::NarrowFault;
@@ -42,7 +42,7 @@ pub(crate) fn put_slices(
     bytes: &[u8],
     room: &mut LowRoom,
 ) -> Result<(), NarrowFault>
-    requires whole { picture_bytes p.now ≤ length bytes.now }
+    requires whole { picture_size p.now ≤ length bytes.now }
     requires room { HasCells p.now.plan room.old }
     ensures { OnOk result (AllAreIn (parameters_of p.now.plan)
         (low_slices (low_parameters_of p.now) bytes.now)

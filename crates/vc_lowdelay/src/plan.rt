@@ -19,7 +19,7 @@ pub struct LowPlan {
 
 impl LowPlan {
     ghost use Rattle.std.specs.Prelude.{◌^◌, ◌<◌, length, take, drop};
-    ghost use Rattle.vc_lowdelay.specs.OfPlan.{picture_bytes, slice_bytes, slice_count, slice_start};
+    ghost use Rattle.vc_lowdelay.specs.OfPlan.{picture_size, slice_count, slice_size, slice_start};
 
     /// How many slices a picture has.
     pub(crate) fn slice_count(&self) -> u32
@@ -30,8 +30,8 @@ impl LowPlan {
     }
 
     /// How many bytes all slices have.
-    pub(crate) fn picture_bytes(&self) -> u64
-        ensures { result ≡ picture_bytes self.now }
+    pub(crate) fn picture_size(&self) -> u64
+        ensures { result ≡ picture_size self.now }
     {
         self.slice_start(self.slice_count())
     }
@@ -47,9 +47,9 @@ impl LowPlan {
     /// The bytes of a slice, of which these are all.
     pub(crate) fn slice_bytes<'a>(&self, slice: u32, bytes: &'a [u8]) -> &'a [u8]
         requires slice { slice < slice_count self.now }
-        requires whole { picture_bytes self.now ≤ length bytes.now }
+        requires whole { picture_size self.now ≤ length bytes.now }
         ensures value { result.now
-            ≡ take (slice_bytes self.now slice) (drop (slice_start self.now slice) bytes.now) }
+            ≡ take (slice_size self.now slice) (drop (slice_start self.now slice) bytes.now) }
         ensures some { 1 ≤ length result.now }
         ensures few { length result.now ≤ 2 ^ 16 }
     {

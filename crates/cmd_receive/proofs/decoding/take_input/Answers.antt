@@ -8,7 +8,7 @@ returns g c = λ form window new.
     let first = c.new-playout.result in
     let was = c.new-playout.ensures in
     let out = c.conclude.new.playout in
-    rw c.with_records.ensures
+    rw c.with_record_counts.ensures
     (input_back _ _ g.O.Sink.held g.O.Sink.faults g.P.Places.told c.args.output.now first.output.now out.output.now _ c.args.hands.now out.places.now _
     form window c.args.workers c.args.packets c.args.form _ _
     (took_input form window c.args.workers c.args.packets c.args.form _ (g.P.Places.told c.args.hands.now) (playout_state g.O.Sink.held g.O.Sink.faults g.P.Places.told g.P.Places.bound first) _ _ _ _ (rw was.receiver new) (rw was.places c.in-Ok.ensures.told)

@@ -3,5 +3,5 @@ use Rattle.vc_lowdelay.specs.OfPlan.{low_parameters_of}
 use Rattle.vc_lowdelay.proofs.LowAnswers.{is_short}
 use Rattle.vc_lowdelay.proofs.decoding.decode_low_kept.Goals as goal
 
-pub returns-then-bytes-picture_bytes-clause-refused : goal.returns-then-bytes-picture_bytes-clause-refused
-returns-then-bytes-picture_bytes-clause-refused g c = is_short (low_parameters_of c.args.p.now) c.args.bytes.now (omega arith)
+pub returns-then-bytes-picture_size-clause-refused : goal.returns-then-bytes-picture_size-clause-refused
+returns-then-bytes-picture_size-clause-refused g c = is_short (low_parameters_of c.args.p.now) c.args.bytes.now (omega arith)

@@ -2,8 +2,7 @@ use Rattle.std.proofs.Common.{◌+◌, ◌*◌, ◌<◌, ◌≤◌, ℕ, ℤ, ge
 use Rattle.std.proofs.lemmas.Result.{on_ok_weaker}
 use Rattle.vc_types.specs.Lifting.{line_of}
 use Rattle.vc_types.specs.Quantisation.{dequantised}
-use Rattle.vc_slice.specs.Bands.{quantisers_of}
-use Rattle.picture_build.specs.PartsKept.{numbered_in}
+use Rattle.vc_slice.specs.Bands.{numbered_in, quantisers_of}
 use Rattle.vc_lowdelay.specs.OfBands.{turned_in}
 use Rattle.vc_lowdelay.proofs.SliceReads.{puts_same, puts_through}
 use Rattle.vc_lowdelay.proofs.narrow.put_colour.Goals as goal

@@ -16,7 +16,7 @@ returns-then-bytes-gt-LONGEST-clause-broke g c =
         last = c.args.datagram;
         are = refl;
         too_long = omega (arith, c.if-bytes-gt-LONGEST.true, ap (λ (l : List ℕ). length l) c.as_slice-bytes.ensures);
-        plays = record { sent = none_sent x.told x.faults; datagrams_are = omega arith; bytes_are = omega arith };
+        sends = record { sent = none_sent x.told x.faults; datagrams_are = omega arith; bytes_are = omega arith };
         place_is = refl;
       },
     )

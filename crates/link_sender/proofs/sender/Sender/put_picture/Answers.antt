@@ -7,12 +7,12 @@ use Rattle.vc_types.specs.Bits.{bits_of}
 use Rattle.vc_types.specs.SenderSettings.{packing_view, sending_view}
 use Rattle.vc_types.specs.SequenceHeader.{sequence_of}
 use Rattle.vc_types.specs.TransformParameters.{parameters_of}
-use Rattle.link_sender.specs.Packing.{Sends, picture_at}
+use Rattle.link_sender.specs.Packing.{Appends, picture_at}
 use Rattle.link_sender.proofs.Heads.{header_bytes, is_encoder_header, parameter_bytes, short_header, short_parameters}
 use Rattle.link_sender.proofs.Numbered.{then_ok}
 use Rattle.link_sender.proofs.PutPictures.{all_fit, sent_slice_count}
 use Rattle.link_sender.proofs.Putting.{puts_more}
-use Rattle.link_sender.proofs.SentAsPacked.{sends_packed}
+use Rattle.link_sender.proofs.SentAsPacked.{appends_packed}
 use Rattle.link_sender.proofs.sender.Sender.put_picture.Goals as goal
 
 pub write_header-requires : goal.write_header-requires
@@ -50,6 +50,6 @@ returns g c =
     let is = c.picture-picture.ensures in
     let room : slices_room (packing_view p.settings) ≡ slice_room s = ap slices_room is.settings_are in
     then_ok c.put_encoded.result c.put_encoded.ensures
-    (λ put. subst (λ (n : ℕ). Sends s (map (outgoing picture) (HeaderContent ∷ ParametersContent ∷ runs n)) c.args.outbox.now c.put_encoded.new.self) room
-    (sends_packed s picture c.args.self.now.settings.first_picture p (HeaderContent ∷ ParametersContent ∷ runs (slices_room (packing_view p.settings))) c.args.outbox.now c.put_encoded.new.self is
+    (λ put. subst (λ (n : ℕ). Appends s (map (outgoing picture) (HeaderContent ∷ ParametersContent ∷ runs n)) c.args.outbox.now c.put_encoded.new.self) room
+    (appends_packed s picture c.args.self.now.settings.first_picture p (HeaderContent ∷ ParametersContent ∷ runs (slices_room (packing_view p.settings))) c.args.outbox.now c.put_encoded.new.self is
     (puts_more p (HeaderContent ∷ ParametersContent ∷ []) (runs (slices_room (packing_view p.settings))) c.args.outbox.now c.put_heads.new.self c.put_encoded.new.self c.in_ok-put_heads.ensures put)))
