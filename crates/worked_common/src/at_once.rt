@@ -1,12 +1,12 @@
 use std::alloc::Global;
-use vc_slice::{Hands, Places, SliceDone, SliceJob, decode};
+use vc_slice::{Hands, Places, RunDone, RunJob, RunLoad, decode_run};
 use vc_types::NoMemory;
 
-/// One place, where a slice is decoded at once. It tells nothing.
+/// One place, where a run is decoded at once. It tells nothing.
 #[derive(Drop)]
 pub struct AtOnce {
     alloc: Global,
-    done: Option<SliceDone>,
+    done: Option<RunDone>,
 }
 
 impl AtOnce {
@@ -22,22 +22,22 @@ impl Places for AtOnce {
 
     ghost told = { λ _. None };
 
-    fn put(&mut self, job: SliceJob) -> Result<u32, SliceJob> {
+    fn put(&mut self, load: RunLoad) -> Result<u32, RunLoad> {
         if self.done.is_some() {
-            return Err(job);
+            return Err(load);
         }
-        let Some(done) = decoded(self.alloc, &job) else {
-            return Err(job);
+        let Some(done) = decoded(self.alloc, &load.job) else {
+            return Err(load);
         };
         self.done = Some(done);
         Ok(0)
     }
 
-    fn take(&mut self, _place: u32) -> Option<SliceDone> {
+    fn take(&mut self, _place: u32) -> Option<RunDone> {
         self.done.take()
     }
 
-    fn withdraw(&mut self, _place: u32) -> Option<SliceJob> {
+    fn withdraw(&mut self, _place: u32) -> Option<RunLoad> {
         None
     }
 
@@ -56,6 +56,6 @@ impl Hands for AtOnce {
     }
 }
 
-fn decoded(alloc: Global, job: &SliceJob) -> Option<SliceDone> {
-    decode(alloc, job.copy().ok()?).ok()
+fn decoded(alloc: Global, job: &RunJob) -> Option<RunDone> {
+    decode_run(alloc, job.copy(alloc).ok()?, Vec::new(alloc)).ok()
 }

@@ -30,7 +30,7 @@ impl From<NoMemory> for Bad {
 
 /// Bytes that have a name.
 #[derive(Drop)]
-pub struct Part {
+pub struct NamedBytes {
     pub name: String,
     pub bytes: Vec<u8>,
 }
@@ -43,7 +43,7 @@ fn pairs(alloc: Global, text: &str) -> Result<Vec<u8>, Bad> {
     }
 }
 
-fn part_of<'a>(parts: &'a [Part], name: &str) -> Result<&'a [u8], Bad> {
+fn part_of<'a>(parts: &'a [NamedBytes], name: &str) -> Result<&'a [u8], Bad> {
     match parts.iter().find(|part| part.name.as_str() == name) {
         Some(part) => Ok(part.bytes.as_slice()),
         None => Err(Bad::NoRow),
@@ -51,7 +51,7 @@ fn part_of<'a>(parts: &'a [Part], name: &str) -> Result<&'a [u8], Bad> {
 }
 
 // A part by its name, or entries of it by their places, as header, sent/3 and sent/0..3.
-fn put_part(parts: &[Part], text: &str, into: &mut Vec<u8>) -> Result<(), Bad> {
+fn put_part(parts: &[NamedBytes], text: &str, into: &mut Vec<u8>) -> Result<(), Bad> {
     match text.split_once('/') {
         Some((name, places)) => put_entries(part_of(parts, name)?, places, into),
         None => Ok(into.extend_from_slice(part_of(parts, text)?)?),
@@ -75,7 +75,7 @@ fn put_entries(entries: &[u8], places: &str, into: &mut Vec<u8>) -> Result<(), B
 }
 
 // A part as @header, or pairs of digits.
-fn put_one(alloc: Global, parts: &[Part], text: &str, into: &mut Vec<u8>) -> Result<(), Bad> {
+fn put_one(alloc: Global, parts: &[NamedBytes], text: &str, into: &mut Vec<u8>) -> Result<(), Bad> {
     if let Some(part) = text.strip_prefix('@') {
         return put_part(parts, part, into);
     }
@@ -84,7 +84,12 @@ fn put_one(alloc: Global, parts: &[Part], text: &str, into: &mut Vec<u8>) -> Res
 }
 
 // Such a one, or many of it, as 80*96.
-fn put_word(alloc: Global, parts: &[Part], word: &str, into: &mut Vec<u8>) -> Result<(), Bad> {
+fn put_word(
+    alloc: Global,
+    parts: &[NamedBytes],
+    word: &str,
+    into: &mut Vec<u8>,
+) -> Result<(), Bad> {
     let (text, count) = word.split_once('*').unwrap_or((word, "1"));
     let Ok(count) = count.parse::<u32>() else {
         return Err(Bad::NoRow);
@@ -97,7 +102,7 @@ fn put_word(alloc: Global, parts: &[Part], word: &str, into: &mut Vec<u8>) -> Re
 
 /// Puts what a text says after some bytes: its words, and what is between [ and ], with its length in two
 /// bytes before it.
-pub fn put(alloc: Global, parts: &[Part], text: &str, into: &mut Vec<u8>) -> Result<(), Bad> {
+pub fn put(alloc: Global, parts: &[NamedBytes], text: &str, into: &mut Vec<u8>) -> Result<(), Bad> {
     let mut inner: Option<Vec<u8>> = None;
     for word in text.split_whitespace() {
         match (word, inner.take()) {

@@ -12,10 +12,11 @@ mod payloads;
 mod plans;
 mod range;
 mod recorder;
+mod runs;
 mod two_places;
 
 pub use at_once::AtOnce;
-pub use digits::{Bad, Part, put};
+pub use digits::{Bad, NamedBytes, put};
 pub use doorkeeper::Doorkeeper;
 pub use entries::split_entry;
 pub use jobs::job_of;
@@ -24,4 +25,5 @@ pub use payloads::{HEADER_PAYLOAD, params_payload, slice_payload};
 pub use plans::{ONE_SLICE, THREE_SLICES, TWO_SLICES};
 pub use range::range_of;
 pub use recorder::Recorder;
+pub use runs::run_of;
 pub use two_places::{Given, TwoPlaces};

@@ -1,6 +1,6 @@
 ghost use Rattle.std.specs.Prelude.{◌≡◌, Err, None};
 
-use vc_slice::{Hands, Places, SliceDone, SliceJob};
+use vc_slice::{Hands, Places, RunDone, RunLoad};
 use vc_types::NoMemory;
 
 /// No place at all, and no memory for workers.
@@ -14,20 +14,20 @@ impl Places for NoWorkers {
 
     ghost told = { λ _. None };
 
-    fn put(&mut self, job: SliceJob) -> Result<u32, SliceJob>
-        ensures value { result ≡ Err job }
+    fn put(&mut self, load: RunLoad) -> Result<u32, RunLoad>
+        ensures value { result ≡ Err load }
     {
-        Err(job)
+        Err(load)
     }
 
     // There is no place to ask of, so none is asked for here.
-    fn take(&mut self, _place: u32) -> Option<SliceDone>
+    fn take(&mut self, _place: u32) -> Option<RunDone>
         ensures value { result ≡ None }
     {
         None
     }
 
-    fn withdraw(&mut self, _place: u32) -> Option<SliceJob>
+    fn withdraw(&mut self, _place: u32) -> Option<RunLoad>
         ensures value { result ≡ None }
     {
         None

@@ -1,15 +1,15 @@
 use std::alloc::{AllocError, Global};
-use vc_slice::{Hands, Places, SliceDone, SliceJob};
+use vc_slice::{Hands, Places, RunDone, RunJob, RunLoad};
 use vc_types::NoMemory;
 
 #[derive(Drop)]
 struct Stored {
-    job: SliceJob,
+    job: RunJob,
     place: u32,
 }
 
-/// Hands that tell what they are asked, while they have room for that, and decode nothing. A slice's
-/// place is the number of slices before it.
+/// Hands that tell what they are asked, while they have room for that, and decode nothing. A run's
+/// place is the number of runs before it.
 #[derive(Drop)]
 pub struct Recorder {
     offered: Vec<Stored>,
@@ -32,16 +32,20 @@ impl Recorder {
 
     /// Whether there was room for all, and slices of these numbers and indices were offered in turn.
     pub fn was_offered(&self, slices: &[(u64, u32)]) -> bool {
-        if self.is_full || self.offered.len() != slices.len() {
+        if self.is_full {
             return false;
         }
-        for i in 0..slices.len() {
-            let job = &self.offered[i].job;
-            if (job.number, job.index) != slices[i] {
-                return false;
+        let mut at = 0;
+        for stored in &self.offered {
+            for k in 0..stored.job.slices.len() {
+                let offered = (stored.job.number, stored.job.first + k as u32);
+                if slices.get(at) != Some(&offered) {
+                    return false;
+                }
+                at += 1;
             }
         }
-        true
+        at == slices.len()
     }
 
     /// The places that were freed, in this order.
@@ -68,18 +72,21 @@ impl Places for Recorder {
       started = r.started.items;
     }) };
 
-    fn put(&mut self, job: SliceJob) -> Result<u32, SliceJob> {
+    fn put(&mut self, load: RunLoad) -> Result<u32, RunLoad> {
         let place = self.offered.len();
         if place >= self.offered.capacity() || place > 1000 {
             self.is_full = true;
-            return Err(job);
+            return Err(load);
         }
         let place = place as u32;
-        self.offered.push_reserved(Stored { job, place });
+        self.offered.push_reserved(Stored {
+            job: load.job,
+            place,
+        });
         Ok(place)
     }
 
-    fn take(&mut self, place: u32) -> Option<SliceDone> {
+    fn take(&mut self, place: u32) -> Option<RunDone> {
         if self.asked.len() >= self.asked.capacity() {
             self.is_full = true;
         } else {
@@ -88,7 +95,7 @@ impl Places for Recorder {
         None
     }
 
-    fn withdraw(&mut self, _place: u32) -> Option<SliceJob> {
+    fn withdraw(&mut self, _place: u32) -> Option<RunLoad> {
         None
     }
 

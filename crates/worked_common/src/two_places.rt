@@ -1,32 +1,34 @@
-use crate::jobs::job_of;
 use crate::plans::UNWEIGHTED_SLICES;
+use crate::runs::run_of;
 use bytes::Bytes;
 use std::alloc::Global;
-use vc_slice::{Hands, Places, SliceDone, SliceJob, decode};
+use vc_slice::{Hands, Places, RunDone, RunJob, RunLoad, decode_run};
 use vc_types::{NoMemory, Plan};
 
-/// What is given back in place of the answer to a slice.
+/// What is given back in place of the answer to a run.
 #[derive(Clone, Copy)]
 pub enum Given {
     OfNextPicture,
     /// `UNWEIGHTED_SLICES`.
     OfAnotherPlan,
-    /// Those of the first slice, and empty ones in place of them.
+    /// Those of the first slice of the first run, and empty ones in place of them.
     OfOtherBytes,
     /// Which has its answer already.
-    OfFirstSlice,
+    OfFirstRun,
+    /// Without its last slice, where there are more.
+    CutShort,
     InOppositeOrder,
 }
 
-/// Two places, where a slice is decoded at once. They give what they have, whichever is asked, and
+/// Two places, where a run is decoded at once. They give what they have, whichever is asked, and
 /// tell nothing.
 #[derive(Drop)]
 pub struct TwoPlaces {
     alloc: Global,
     given: Given,
-    // The first slice that was put.
-    first: Option<SliceJob>,
-    dones: Vec<SliceDone>,
+    // The first run that was put.
+    first: Option<RunJob>,
+    dones: Vec<RunDone>,
     // How many were given back.
     back: u32,
 }
@@ -47,42 +49,60 @@ impl TwoPlaces {
         self.back > 0 && self.dones.is_empty()
     }
 
-    // The first slice that was put, which is this one if there was none.
-    fn first(&mut self, job: &SliceJob) -> Option<SliceJob> {
+    // The first run that was put, which is this one if there was none.
+    fn first(&mut self, job: &RunJob) -> Option<RunJob> {
         let first = match &self.first {
-            Some(first) => first.copy().ok()?,
-            None => job.copy().ok()?,
+            Some(first) => first.copy(self.alloc).ok()?,
+            None => job.copy(self.alloc).ok()?,
         };
-        self.first = Some(first.copy().ok()?);
+        self.first = Some(first.copy(self.alloc).ok()?);
         Some(first)
     }
 
-    // The slice whose answer is given back in place of that to this one.
-    fn turned(&mut self, job: &SliceJob) -> Option<SliceJob> {
+    // The run whose answer is given back in place of that to this one.
+    fn turned(&mut self, job: &RunJob) -> Option<RunJob> {
+        let alloc = self.alloc;
         let first = self.first(job)?;
+        let all = job.slices.len();
         match self.given {
-            Given::OfNextPicture => moved(job, job.plan, job.number.saturating_add(1)),
-            Given::OfAnotherPlan => moved(job, UNWEIGHTED_SLICES, job.number),
-            Given::OfOtherBytes => with_other_bytes(job, first),
-            Given::OfFirstSlice => Some(first),
-            Given::InOppositeOrder => job.copy().ok(),
+            Given::OfNextPicture => cut_to(alloc, job, job.plan, job.number.saturating_add(1), all),
+            Given::OfAnotherPlan => cut_to(alloc, job, UNWEIGHTED_SLICES, job.number, all),
+            Given::OfOtherBytes => with_other_bytes(alloc, job, &first),
+            Given::OfFirstRun => Some(first),
+            Given::CutShort => cut_to(
+                alloc,
+                job,
+                job.plan,
+                job.number,
+                all.saturating_sub(1).max(1),
+            ),
+            Given::InOppositeOrder => job.copy(alloc).ok(),
         }
     }
 }
 
-// The slice of the same index and bytes in another picture.
-fn moved(job: &SliceJob, plan: Plan, number: u64) -> Option<SliceJob> {
-    job_of(plan, number, job.index, job.bytes.clone().ok()?)
+// So many slices of a run in another picture.
+fn cut_to(alloc: Global, job: &RunJob, plan: Plan, number: u64, count: usize) -> Option<RunJob> {
+    let mut slices = Vec::new(alloc);
+    for bytes in job.slices.as_slice().get(..count)? {
+        slices.push(bytes.clone().ok()?).ok()?;
+    }
+    run_of(alloc, plan, number, job.first, slices)
 }
 
-// The slice with the bytes of the first one, or with empty ones where it has those.
-fn with_other_bytes(job: &SliceJob, first: SliceJob) -> Option<SliceJob> {
-    let other = if job.bytes.as_slice() == first.bytes.as_slice() {
-        Bytes::from_static(&[0; 4])
-    } else {
-        first.bytes
-    };
-    job_of(job.plan, job.number, job.index, other)
+// The run with the bytes of the first slice of the first run for each, or with empty ones where it has those.
+fn with_other_bytes(alloc: Global, job: &RunJob, first: &RunJob) -> Option<RunJob> {
+    let bytes = first.slices.as_slice().get(0)?;
+    let mut slices = Vec::new(alloc);
+    for own in &job.slices {
+        let other = if own.as_slice() == bytes.as_slice() {
+            Bytes::from_static(&[0; 4])
+        } else {
+            bytes.clone().ok()?
+        };
+        slices.push(other).ok()?;
+    }
+    run_of(alloc, job.plan, job.number, job.first, slices)
 }
 
 impl Places for TwoPlaces {
@@ -92,22 +112,22 @@ impl Places for TwoPlaces {
 
     ghost told = { λ _. None };
 
-    fn put(&mut self, job: SliceJob) -> Result<u32, SliceJob> {
+    fn put(&mut self, load: RunLoad) -> Result<u32, RunLoad> {
         let place = self.dones.len();
         if place >= 2 {
-            return Err(job);
+            return Err(load);
         }
-        let Some(done) = answer(self, &job) else {
-            return Err(job);
+        let Some(done) = answer(self, &load.job) else {
+            return Err(load);
         };
         match self.dones.push(done) {
             Ok(()) => Ok(place as u32),
-            Err(_) => Err(job),
+            Err(_) => Err(load),
         }
     }
 
     // The last place is asked first.
-    fn take(&mut self, _place: u32) -> Option<SliceDone> {
+    fn take(&mut self, _place: u32) -> Option<RunDone> {
         if self.dones.is_empty() {
             return None;
         }
@@ -118,7 +138,7 @@ impl Places for TwoPlaces {
         }
     }
 
-    fn withdraw(&mut self, _place: u32) -> Option<SliceJob> {
+    fn withdraw(&mut self, _place: u32) -> Option<RunLoad> {
         None
     }
 
@@ -127,8 +147,9 @@ impl Places for TwoPlaces {
     }
 }
 
-fn answer(places: &mut TwoPlaces, job: &SliceJob) -> Option<SliceDone> {
-    decode(places.alloc, places.turned(job)?).ok()
+fn answer(places: &mut TwoPlaces, job: &RunJob) -> Option<RunDone> {
+    let turned = places.turned(job)?;
+    decode_run(places.alloc, turned, Vec::new(places.alloc)).ok()
 }
 
 impl Hands for TwoPlaces {

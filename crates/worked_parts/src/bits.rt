@@ -3,7 +3,7 @@ use crate::codes::{add_signed, signed_of};
 use crate::words::{add_bytes, add_number, add_word, bytes_of, natural, parted};
 use std::alloc::Global;
 use vc_bits::{BitReader, BitWriter, Block};
-use worked_common::{Bad, Part};
+use worked_common::{Bad, NamedBytes};
 
 // What a read is called and how many bits it is of, as in bits:3.
 fn read_of(word: &str) -> Result<(&str, u32), Bad> {
@@ -105,7 +105,7 @@ fn add_read(alloc: Global, r: &mut BitReader, word: &str, into: &mut String) -> 
 }
 
 /// What reads of bits answer, one after another.
-pub(crate) fn read(alloc: Global, parts: &[Part], given: &str) -> Result<String, Bad> {
+pub(crate) fn read(alloc: Global, parts: &[NamedBytes], given: &str) -> Result<String, Bad> {
     let (bytes, reads) = parted(given)?;
     let bytes = bytes_of(alloc, parts, bytes)?;
     let mut r = BitReader::new(bytes.as_slice());
@@ -136,7 +136,7 @@ fn add_block_read(
 }
 
 /// What reads of a block's bits answer, one after another.
-pub(crate) fn read_block(alloc: Global, parts: &[Part], given: &str) -> Result<String, Bad> {
+pub(crate) fn read_block(alloc: Global, parts: &[NamedBytes], given: &str) -> Result<String, Bad> {
     let (bytes, reads) = parted(given)?;
     let bytes = bytes_of(alloc, parts, bytes)?;
     let mut r = BitReader::new(bytes.as_slice());

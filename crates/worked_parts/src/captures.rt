@@ -9,7 +9,7 @@ use pcap_in::{
 };
 use std::alloc::Global;
 use vc_ports::{MemSource, Source};
-use worked_common::{Bad, Part};
+use worked_common::{Bad, NamedBytes};
 
 fn network(word: &str) -> Result<Network, Bad> {
     match word {
@@ -48,7 +48,7 @@ fn wanted(text: &str) -> Result<(Network, u16), Bad> {
 /// Where the payload begins and ends that a record carries.
 pub(crate) fn carried_by(
     alloc: Global,
-    parts: &[Part],
+    parts: &[NamedBytes],
     given: &str,
     into: &mut String,
 ) -> Result<(), Bad> {
@@ -75,7 +75,7 @@ fn add_cuts(
 /// The same of the first 0, 1, 2, .. and all of the bytes.
 pub(crate) fn carried_cuts(
     alloc: Global,
-    parts: &[Part],
+    parts: &[NamedBytes],
     given: &str,
     into: &mut String,
 ) -> Result<(), Bad> {
@@ -117,7 +117,7 @@ fn add_record<S: Source>(
 /// What five reads of a record answer, where the reads of these numbers fail.
 pub(crate) fn records(
     alloc: Global,
-    parts: &[Part],
+    parts: &[NamedBytes],
     given: &str,
     into: &mut String,
 ) -> Result<(), Bad> {
@@ -142,7 +142,7 @@ fn add_first(alloc: Global, bytes: &[u8], into: &mut String) -> Result<(), Bad> 
 /// What the first read answers of the first 0, 1, 2, .. and all of the bytes.
 pub(crate) fn record_cuts(
     alloc: Global,
-    parts: &[Part],
+    parts: &[NamedBytes],
     given: &str,
     into: &mut String,
 ) -> Result<(), Bad> {
@@ -223,7 +223,7 @@ fn asked(text: &str) -> Result<(u16, u32, &str), Bad> {
 /// What a feed answers, and its counts.
 pub(crate) fn fed(
     alloc: Global,
-    parts: &[Part],
+    parts: &[NamedBytes],
     given: &str,
     into: &mut String,
 ) -> Result<(), Bad> {

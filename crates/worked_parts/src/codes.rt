@@ -9,7 +9,7 @@ use vc_golomb::{
     UintRefusal, read_sint_bounded, read_sints, read_uint, sint_codes, write_behind_zeros,
     write_sint, write_uint,
 };
-use worked_common::{Bad, Part};
+use worked_common::{Bad, NamedBytes};
 
 fn finished(alloc: Global, w: BitWriter) -> Result<String, Bad> {
     let mut w = w;
@@ -111,7 +111,11 @@ fn read_all(alloc: Global, r: &mut BitReader, most: u32) -> Result<String, Bad> 
 
 /// The numbers up to a greatest one that are read of bytes by their unsigned codes, why the next one isn't,
 /// and after how many bits.
-pub(crate) fn read_unsigned(alloc: Global, parts: &[Part], given: &str) -> Result<String, Bad> {
+pub(crate) fn read_unsigned(
+    alloc: Global,
+    parts: &[NamedBytes],
+    given: &str,
+) -> Result<String, Bad> {
     let (most, bytes) = parted(given)?;
     let most = natural(most)?;
     let bytes = bytes_of(alloc, parts, bytes)?;
@@ -157,7 +161,7 @@ pub(crate) fn add_signed(
 }
 
 /// So many numbers, up to a greatest magnitude, that are read of a block by their signed codes.
-pub(crate) fn read_signed(alloc: Global, parts: &[Part], given: &str) -> Result<String, Bad> {
+pub(crate) fn read_signed(alloc: Global, parts: &[NamedBytes], given: &str) -> Result<String, Bad> {
     let (front, bytes) = parted(given)?;
     let (count, most) = count_and_most(front)?;
     let bytes = bytes_of(alloc, parts, bytes)?;
@@ -183,7 +187,7 @@ pub(crate) fn signed_of(alloc: Global, block: &Block, count: u32) -> Result<Stri
 /// So many numbers that are read of a block by their signed codes at once.
 pub(crate) fn read_signed_at_once(
     alloc: Global,
-    parts: &[Part],
+    parts: &[NamedBytes],
     given: &str,
 ) -> Result<String, Bad> {
     let (count, bytes) = parted(given)?;

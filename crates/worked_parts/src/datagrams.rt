@@ -4,7 +4,7 @@ use crate::words::{add_bytes, add_named, add_number, add_word, bytes_of, parted}
 use rtp_head::{RtpRefusal, RtpView, read_rtp, write_rtp};
 use std::alloc::Global;
 use vc2_payload::{FragmentHead, Payload, PayloadRefusal, read_payload, write_payload};
-use worked_common::{Bad, Part};
+use worked_common::{Bad, NamedBytes};
 
 fn add_view(alloc: Global, view: &RtpView, into: &mut String) -> Result<(), Bad> {
     let fields = [
@@ -28,7 +28,7 @@ fn add_rtp_refusal(alloc: Global, refusal: RtpRefusal, into: &mut String) -> Res
 /// The RTP header of a datagram, and where the payload begins and ends.
 pub(crate) fn rtp(
     alloc: Global,
-    parts: &[Part],
+    parts: &[NamedBytes],
     given: &str,
     into: &mut String,
 ) -> Result<(), Bad> {
@@ -52,7 +52,7 @@ fn add_rtp_cuts(alloc: Global, bytes: &[u8], into: &mut String) -> Result<(), Ba
 /// What is read of the first 0, 1, 2, .. and all of a datagram's bytes.
 pub(crate) fn rtp_cuts(
     alloc: Global,
-    parts: &[Part],
+    parts: &[NamedBytes],
     given: &str,
     into: &mut String,
 ) -> Result<(), Bad> {
@@ -163,7 +163,7 @@ fn add_payload_refusal(
 /// A payload, by its parse code.
 pub(crate) fn payload(
     alloc: Global,
-    parts: &[Part],
+    parts: &[NamedBytes],
     given: &str,
     into: &mut String,
 ) -> Result<(), Bad> {
@@ -187,7 +187,7 @@ fn add_payload_cuts(alloc: Global, bytes: &[u8], into: &mut String) -> Result<()
 /// What is read of the first 0, 1, 2, .. and all of a payload's bytes.
 pub(crate) fn payload_cuts(
     alloc: Global,
-    parts: &[Part],
+    parts: &[NamedBytes],
     given: &str,
     into: &mut String,
 ) -> Result<(), Bad> {
@@ -198,7 +198,7 @@ pub(crate) fn payload_cuts(
 /// The bytes that are written of what was read of a payload, behind others that are there.
 pub(crate) fn payload_written(
     alloc: Global,
-    parts: &[Part],
+    parts: &[NamedBytes],
     given: &str,
     into: &mut String,
 ) -> Result<(), Bad> {

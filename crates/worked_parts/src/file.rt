@@ -1,24 +1,24 @@
 use crate::kinds::came;
 use crate::words::{add_pieces, spread};
 use std::alloc::Global;
-use worked_common::{Bad, Part, put};
+use worked_common::{Bad, NamedBytes, put};
 
 // What was made of a file's lines so far.
 #[derive(Drop)]
 struct Read {
-    parts: Vec<Part>,
+    parts: Vec<NamedBytes>,
     rows: u64,
     differ: u64,
     said: String,
 }
 
-fn add_part(alloc: Global, parts: &mut Vec<Part>, text: &str) -> Result<(), Bad> {
+fn add_part(alloc: Global, parts: &mut Vec<NamedBytes>, text: &str) -> Result<(), Bad> {
     let Some((name, rest)) = text.trim().split_once(' ') else {
         return Err(Bad::NoRow);
     };
     let mut bytes = Vec::new(alloc);
     put(alloc, parts.as_slice(), rest, &mut bytes)?;
-    parts.push(Part {
+    parts.push(NamedBytes {
         name: String::from_str(alloc, name)?,
         bytes,
     })?;
@@ -26,7 +26,7 @@ fn add_part(alloc: Global, parts: &mut Vec<Part>, text: &str) -> Result<(), Bad>
 }
 
 // Whether what came says the same as what is wanted, both with one space after each word.
-fn is_wanted(alloc: Global, parts: &[Part], came: &str, wanted: &str) -> Result<bool, Bad> {
+fn is_wanted(alloc: Global, parts: &[NamedBytes], came: &str, wanted: &str) -> Result<bool, Bad> {
     let wanted = spread(alloc, parts, wanted)?;
     Ok(came == wanted.as_str())
 }

@@ -9,7 +9,7 @@ use crate::words::{add_bytes, bytes_of, natural, parted};
 use std::alloc::Global;
 use vc_seqhdr::{read_header, read_header_of, write_header};
 use vc_types::{Header, HeaderRefusal, Sampling, Shape, SignalRange, dimensions_fit};
-use worked_common::{Bad, Part};
+use worked_common::{Bad, NamedBytes};
 
 fn sampling_word(sampling: Sampling) -> &'static str {
     match sampling {
@@ -63,13 +63,13 @@ fn text_of_read(
 }
 
 /// The sequence header at the front of bytes, and how many of them it takes.
-pub(crate) fn header(alloc: Global, parts: &[Part], given: &str) -> Result<String, Bad> {
+pub(crate) fn header(alloc: Global, parts: &[NamedBytes], given: &str) -> Result<String, Bad> {
     let bytes = bytes_of(alloc, parts, given)?;
     text_of_read(alloc, read_header(bytes.as_slice()))
 }
 
 /// The same of the profile that stands before a colon.
-pub(crate) fn header_of(alloc: Global, parts: &[Part], given: &str) -> Result<String, Bad> {
+pub(crate) fn header_of(alloc: Global, parts: &[NamedBytes], given: &str) -> Result<String, Bad> {
     let (profile, given) = parted(given)?;
     let Ok(profile) = u8::try_from(natural(profile)?) else {
         return Err(Bad::NoRow);
@@ -79,7 +79,7 @@ pub(crate) fn header_of(alloc: Global, parts: &[Part], given: &str) -> Result<St
 }
 
 /// What is read of the first 0, 1, 2, .. and all of some bytes.
-pub(crate) fn header_cuts(alloc: Global, parts: &[Part], given: &str) -> Result<String, Bad> {
+pub(crate) fn header_cuts(alloc: Global, parts: &[NamedBytes], given: &str) -> Result<String, Bad> {
     let bytes = bytes_of(alloc, parts, given)?;
     let bytes = bytes.as_slice();
     let mut all = String::new(alloc);
@@ -102,7 +102,11 @@ pub(crate) fn shape_text(alloc: Global, shape: &Shape) -> Result<String, Bad> {
 }
 
 /// The planes of a picture, by the sequence header at the front of bytes.
-pub(crate) fn header_planes(alloc: Global, parts: &[Part], given: &str) -> Result<String, Bad> {
+pub(crate) fn header_planes(
+    alloc: Global,
+    parts: &[NamedBytes],
+    given: &str,
+) -> Result<String, Bad> {
     let bytes = bytes_of(alloc, parts, given)?;
     match read_header(bytes.as_slice()) {
         Ok((header, _)) => shape_text(alloc, &header.shape()),

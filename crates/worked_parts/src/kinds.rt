@@ -1,19 +1,29 @@
 use crate::words::spread;
 use crate::{
     bits, captures, codes, datagrams, fields, headers, lines, low_delay, narrow_planes, parameters,
-    places, planes, ports, quantisers, reports, sizes, slices, wires,
+    places, planes, ports, quantisers, reports, runs, sizes, slices, wires,
 };
 use std::alloc::Global;
-use worked_common::{Bad, Part};
+use worked_common::{Bad, NamedBytes};
 
 /// What a call came to, as text, with one space after each word: the kind of a row says which call, and
 /// what it is given stands behind that.
-pub(crate) fn came(alloc: Global, parts: &[Part], kind: &str, given: &str) -> Result<String, Bad> {
+pub(crate) fn came(
+    alloc: Global,
+    parts: &[NamedBytes],
+    kind: &str,
+    given: &str,
+) -> Result<String, Bad> {
     let came = came_of_bits(alloc, parts, kind, given)?;
     spread(alloc, parts, came.as_str())
 }
 
-fn came_of_bits(alloc: Global, parts: &[Part], kind: &str, given: &str) -> Result<String, Bad> {
+fn came_of_bits(
+    alloc: Global,
+    parts: &[NamedBytes],
+    kind: &str,
+    given: &str,
+) -> Result<String, Bad> {
     match kind {
         "read-bits" => bits::read(alloc, parts, given),
         "read-block" => bits::read_block(alloc, parts, given),
@@ -22,7 +32,12 @@ fn came_of_bits(alloc: Global, parts: &[Part], kind: &str, given: &str) -> Resul
     }
 }
 
-fn came_of_codes(alloc: Global, parts: &[Part], kind: &str, given: &str) -> Result<String, Bad> {
+fn came_of_codes(
+    alloc: Global,
+    parts: &[NamedBytes],
+    kind: &str,
+    given: &str,
+) -> Result<String, Bad> {
     match kind {
         "unsigned" => codes::unsigned(alloc, given),
         "signed" => codes::signed(alloc, given),
@@ -35,7 +50,12 @@ fn came_of_codes(alloc: Global, parts: &[Part], kind: &str, given: &str) -> Resu
     }
 }
 
-fn came_of_headers(alloc: Global, parts: &[Part], kind: &str, given: &str) -> Result<String, Bad> {
+fn came_of_headers(
+    alloc: Global,
+    parts: &[NamedBytes],
+    kind: &str,
+    given: &str,
+) -> Result<String, Bad> {
     match kind {
         "header" => headers::header(alloc, parts, given),
         "header-of" => headers::header_of(alloc, parts, given),
@@ -46,7 +66,12 @@ fn came_of_headers(alloc: Global, parts: &[Part], kind: &str, given: &str) -> Re
     }
 }
 
-fn came_of_others(alloc: Global, parts: &[Part], kind: &str, given: &str) -> Result<String, Bad> {
+fn came_of_others(
+    alloc: Global,
+    parts: &[NamedBytes],
+    kind: &str,
+    given: &str,
+) -> Result<String, Bad> {
     let mut all = String::new(alloc);
     add_of_parameters(alloc, parts, kind, given, &mut all)?;
     Ok(all)
@@ -54,7 +79,7 @@ fn came_of_others(alloc: Global, parts: &[Part], kind: &str, given: &str) -> Res
 
 fn add_of_parameters(
     alloc: Global,
-    parts: &[Part],
+    parts: &[NamedBytes],
     kind: &str,
     given: &str,
     into: &mut String,
@@ -72,7 +97,7 @@ fn add_of_parameters(
 
 fn add_of_datagrams(
     alloc: Global,
-    parts: &[Part],
+    parts: &[NamedBytes],
     kind: &str,
     given: &str,
     into: &mut String,
@@ -90,7 +115,7 @@ fn add_of_datagrams(
 
 fn add_of_slices(
     alloc: Global,
-    parts: &[Part],
+    parts: &[NamedBytes],
     kind: &str,
     given: &str,
     into: &mut String,
@@ -99,6 +124,7 @@ fn add_of_slices(
         "cut" => slices::cut_slice(alloc, parts, given, into),
         "cut-cuts" => slices::cut_cuts(alloc, parts, given, into),
         "slice" => slices::slice(alloc, parts, given, into),
+        "run" => runs::run(alloc, parts, given, into),
         "slice-kept" => slices::slice_kept(alloc, parts, given, into),
         "slice-written" => slices::slice_written(alloc, parts, given, into),
         "slice-lengths" => slices::slice_lengths(alloc, parts, given, into),
@@ -108,7 +134,7 @@ fn add_of_slices(
 
 fn add_of_ports(
     alloc: Global,
-    parts: &[Part],
+    parts: &[NamedBytes],
     kind: &str,
     given: &str,
     into: &mut String,
@@ -128,7 +154,7 @@ fn add_of_ports(
 
 fn add_of_reports(
     alloc: Global,
-    parts: &[Part],
+    parts: &[NamedBytes],
     kind: &str,
     given: &str,
     into: &mut String,
@@ -146,7 +172,7 @@ fn add_of_reports(
 
 fn add_of_captures(
     alloc: Global,
-    parts: &[Part],
+    parts: &[NamedBytes],
     kind: &str,
     given: &str,
     into: &mut String,
@@ -218,6 +244,7 @@ fn add_of_places(alloc: Global, kind: &str, given: &str, into: &mut String) -> R
 fn add_of_planes(alloc: Global, kind: &str, given: &str, into: &mut String) -> Result<(), Bad> {
     match kind {
         "inverse" => planes::inverses(alloc, given, into),
+        "inverse-in-64-bits" => planes::long_inverses(alloc, given, into),
         "inverse-sum" => planes::inverse_sum(alloc, given, into),
         "forward" => planes::forwards(alloc, given, into),
         "output" => narrow_planes::outputs(alloc, given, into),

@@ -6,7 +6,7 @@ use std::alloc::Global;
 use vc_lowdelay::{LowPlan, LowRefusal, ParamsRefusal, decode_low, read_low_params};
 use vc_seqhdr::read_header_of;
 use vc_types::{Header, LOW_DELAY_PROFILE, Plane};
-use worked_common::{Bad, Part};
+use worked_common::{Bad, NamedBytes};
 
 // A sequence header, and the bytes behind it.
 fn behind_header(bytes: &[u8]) -> Result<(Header, &[u8]), Bad> {
@@ -22,7 +22,7 @@ fn behind_header(bytes: &[u8]) -> Result<(Header, &[u8]), Bad> {
 // What is read of a sequence header and the parameters behind it.
 fn low_plan_read(
     alloc: Global,
-    parts: &[Part],
+    parts: &[NamedBytes],
     given: &str,
 ) -> Result<Result<(LowPlan, usize), ParamsRefusal>, Bad> {
     let bytes = bytes_of(alloc, parts, given)?;
@@ -42,7 +42,7 @@ fn add_low_plan(alloc: Global, p: &LowPlan, used: usize, into: &mut String) -> R
 /// The transform parameters behind a sequence header, and how many bytes they take.
 pub(crate) fn low_parameters(
     alloc: Global,
-    parts: &[Part],
+    parts: &[NamedBytes],
     given: &str,
     into: &mut String,
 ) -> Result<(), Bad> {
@@ -52,7 +52,7 @@ pub(crate) fn low_parameters(
     }
 }
 
-fn low_plan_of(alloc: Global, parts: &[Part], given: &str) -> Result<LowPlan, Bad> {
+fn low_plan_of(alloc: Global, parts: &[NamedBytes], given: &str) -> Result<LowPlan, Bad> {
     match low_plan_read(alloc, parts, given)? {
         Ok((p, _)) => Ok(p),
         Err(_) => Err(Bad::NoRow),
@@ -79,7 +79,7 @@ fn add_low_refusal(alloc: Global, refusal: LowRefusal, into: &mut String) -> Res
 /// its slices.
 pub(crate) fn low_picture(
     alloc: Global,
-    parts: &[Part],
+    parts: &[NamedBytes],
     given: &str,
     into: &mut String,
 ) -> Result<(), Bad> {

@@ -20,6 +20,7 @@ mod plans;
 mod ports;
 mod quantisers;
 mod reports;
+mod runs;
 mod sizes;
 mod slices;
 mod wires;

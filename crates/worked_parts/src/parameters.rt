@@ -5,7 +5,7 @@ use std::alloc::Global;
 use vc_params::{ParamsRefusal, read_params, write_params};
 use vc_seqhdr::read_header;
 use vc_types::{Header, Plan};
-use worked_common::{Bad, Part};
+use worked_common::{Bad, NamedBytes};
 
 // A sequence header, and the bytes behind it.
 fn behind_header(bytes: &[u8]) -> Result<(Header, &[u8]), Bad> {
@@ -21,7 +21,7 @@ fn behind_header(bytes: &[u8]) -> Result<(Header, &[u8]), Bad> {
 /// What is read of a sequence header and the parameters behind it, and how many bytes these take.
 pub(crate) fn plan_read(
     alloc: Global,
-    parts: &[Part],
+    parts: &[NamedBytes],
     given: &str,
 ) -> Result<Result<(Plan, usize), ParamsRefusal>, Bad> {
     let bytes = bytes_of(alloc, parts, given)?;
@@ -30,7 +30,7 @@ pub(crate) fn plan_read(
 }
 
 /// The plan of a sequence header and the parameters behind it.
-pub(crate) fn plan_of(alloc: Global, parts: &[Part], given: &str) -> Result<Plan, Bad> {
+pub(crate) fn plan_of(alloc: Global, parts: &[NamedBytes], given: &str) -> Result<Plan, Bad> {
     match plan_read(alloc, parts, given)? {
         Ok((plan, _)) => Ok(plan),
         Err(_) => Err(Bad::NoRow),
@@ -79,7 +79,7 @@ pub(crate) fn add_refusal(
 /// The transform parameters behind a sequence header, and how many bytes they take.
 pub(crate) fn parameters(
     alloc: Global,
-    parts: &[Part],
+    parts: &[NamedBytes],
     given: &str,
     into: &mut String,
 ) -> Result<(), Bad> {
@@ -102,7 +102,7 @@ fn add_cuts(alloc: Global, header: &Header, rest: &[u8], into: &mut String) -> R
 /// What is read of the first 0, 1, 2, .. and all of the bytes behind a sequence header.
 pub(crate) fn parameters_cuts(
     alloc: Global,
-    parts: &[Part],
+    parts: &[NamedBytes],
     given: &str,
     into: &mut String,
 ) -> Result<(), Bad> {
@@ -114,7 +114,7 @@ pub(crate) fn parameters_cuts(
 /// The planes of a plan's picture.
 pub(crate) fn plan_planes(
     alloc: Global,
-    parts: &[Part],
+    parts: &[NamedBytes],
     given: &str,
     into: &mut String,
 ) -> Result<(), Bad> {
@@ -125,7 +125,7 @@ pub(crate) fn plan_planes(
 /// The bytes that are written of a plan, in a stream of a major version that stands before it.
 pub(crate) fn parameters_written(
     alloc: Global,
-    parts: &[Part],
+    parts: &[NamedBytes],
     given: &str,
     into: &mut String,
 ) -> Result<(), Bad> {

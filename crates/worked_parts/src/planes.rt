@@ -5,11 +5,13 @@ ghost use Rattle.vc_types.specs.TransformParameters.{is_symmetric, parameters_of
 
 use crate::lines::some_cells;
 use crate::plans::{PlannedPlane, planned};
-use crate::words::{add_number, add_numbers, numbers, samples, weighed};
+use crate::words::{
+    add_long, add_number, add_numbers, add_word, long_numbers, numbers, samples, weighed,
+};
 use std::alloc::Global;
 use vc_geometry::padded;
 use vc_types::{Component, Grid, Plan, Plane};
-use vc_wave::{Format, forward, inverse};
+use vc_wave::{Format, forward, inverse, inverse_long};
 use worked_common::Bad;
 
 /// The size of a component's plane, and the bits of its samples.
@@ -58,6 +60,21 @@ pub(crate) fn inverses(alloc: Global, given: &str, into: &mut String) -> Result<
     let (planned, cells) = planned(alloc, given)?;
     let made = samples_of(alloc, &planned, numbers(alloc, cells)?)?;
     add_numbers(alloc, into, made.cells())
+}
+
+/// The same in cells of 64 bits, or that these aren't enough.
+pub(crate) fn long_inverses(alloc: Global, given: &str, into: &mut String) -> Result<(), Bad> {
+    let (planned, cells) = planned(alloc, given)?;
+    let mut cells = long_numbers(alloc, cells)?;
+    let (width, height) = padded(&planned.plan, planned.component);
+    if cells.len() != height as usize * width as usize {
+        return Err(Bad::NoRow);
+    }
+    if inverse_long(alloc, &planned.plan, planned.component, &mut cells)? {
+        add_long(alloc, into, cells.as_slice())
+    } else {
+        add_word(into, "wide")
+    }
 }
 
 /// The sum of each sample times its place that some coefficients are made into.

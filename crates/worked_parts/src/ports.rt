@@ -4,7 +4,7 @@ use std::alloc::Global;
 use vc_ports::{
     Filled, Got, MemSink, MemSource, PlainSink, PlainSource, Sink, Source, Took, fill, write_all,
 };
-use worked_common::{Bad, Part};
+use worked_common::{Bad, NamedBytes};
 
 /// The numbers of the calls that fail.
 pub(crate) fn fails(alloc: Global, text: &str) -> Result<Vec<u64>, Bad> {
@@ -64,7 +64,12 @@ fn add_reads<S: Source>(
 }
 
 // A source of bytes, whose calls of these numbers fail.
-fn source(alloc: Global, parts: &[Part], numbers: &str, bytes: &str) -> Result<MemSource, Bad> {
+fn source(
+    alloc: Global,
+    parts: &[NamedBytes],
+    numbers: &str,
+    bytes: &str,
+) -> Result<MemSource, Bad> {
     let bytes = bytes_of(alloc, parts, bytes)?;
     Ok(MemSource::new(bytes, fails(alloc, numbers)?))
 }
@@ -72,7 +77,7 @@ fn source(alloc: Global, parts: &[Part], numbers: &str, bytes: &str) -> Result<M
 /// What reads into buffers of these sizes answer, where the calls of these numbers fail.
 pub(crate) fn memory_source(
     alloc: Global,
-    parts: &[Part],
+    parts: &[NamedBytes],
     given: &str,
     into: &mut String,
 ) -> Result<(), Bad> {
@@ -85,7 +90,7 @@ pub(crate) fn memory_source(
 /// The same of a source that never fails.
 pub(crate) fn plain_source(
     alloc: Global,
-    parts: &[Part],
+    parts: &[NamedBytes],
     given: &str,
     into: &mut String,
 ) -> Result<(), Bad> {
@@ -126,7 +131,7 @@ fn add_all_filled<S: Source>(
 /// What filling buffers of these sizes comes to, where the reads of these numbers fail.
 pub(crate) fn filled(
     alloc: Global,
-    parts: &[Part],
+    parts: &[NamedBytes],
     given: &str,
     into: &mut String,
 ) -> Result<(), Bad> {
@@ -143,7 +148,7 @@ fn sink(alloc: Global, text: &str) -> Result<MemSink, Bad> {
 }
 
 // The bytes of each piece of a text, between which strokes stand.
-fn pieces_of(alloc: Global, parts: &[Part], text: &str) -> Result<Vec<Vec<u8>>, Bad> {
+fn pieces_of(alloc: Global, parts: &[NamedBytes], text: &str) -> Result<Vec<Vec<u8>>, Bad> {
     let mut pieces = Vec::new(alloc);
     for piece in text.split('/') {
         pieces.push(bytes_of(alloc, parts, piece)?)?;
@@ -186,7 +191,7 @@ fn add_held(alloc: Global, sink: &MemSink, into: &mut String) -> Result<(), Bad>
 /// What writes of pieces answer, and what is held then, by a sink that has room for so many bytes.
 pub(crate) fn memory_sink(
     alloc: Global,
-    parts: &[Part],
+    parts: &[NamedBytes],
     given: &str,
     into: &mut String,
 ) -> Result<(), Bad> {
@@ -200,7 +205,7 @@ pub(crate) fn memory_sink(
 /// What a sink that drops all answers.
 pub(crate) fn plain_sink(
     alloc: Global,
-    parts: &[Part],
+    parts: &[NamedBytes],
     given: &str,
     into: &mut String,
 ) -> Result<(), Bad> {
@@ -218,7 +223,7 @@ fn add_whole(sink: &mut MemSink, piece: &[u8], into: &mut String) -> Result<(), 
 /// What writes of whole pieces come to, and what is held then.
 pub(crate) fn written(
     alloc: Global,
-    parts: &[Part],
+    parts: &[NamedBytes],
     given: &str,
     into: &mut String,
 ) -> Result<(), Bad> {

@@ -10,7 +10,7 @@ use rtcp_reports::{
     write_sr,
 };
 use std::alloc::Global;
-use worked_common::{Bad, Part};
+use worked_common::{Bad, NamedBytes};
 
 // What is kept of a source, and how many packets came.
 #[derive(Drop)]
@@ -202,7 +202,7 @@ fn add_rr(
 /// A receiver report and a name, behind other bytes.
 pub(crate) fn rr_written(
     alloc: Global,
-    parts: &[Part],
+    parts: &[NamedBytes],
     given: &str,
     into: &mut String,
 ) -> Result<(), Bad> {
@@ -224,7 +224,7 @@ fn add_sr(out: &mut Vec<u8>, sender: &SenderInfo, name: &[u8]) -> Result<(), Bad
 /// A sender report and a name, behind other bytes.
 pub(crate) fn sr_written(
     alloc: Global,
-    parts: &[Part],
+    parts: &[NamedBytes],
     given: &str,
     into: &mut String,
 ) -> Result<(), Bad> {
@@ -277,7 +277,7 @@ fn add_refusal(alloc: Global, refusal: RtcpRefusal, into: &mut String) -> Result
 /// What the report says that a compound packet begins with, and its blocks; or its refusal, with the number.
 pub(crate) fn compound(
     alloc: Global,
-    parts: &[Part],
+    parts: &[NamedBytes],
     given: &str,
     into: &mut String,
 ) -> Result<(), Bad> {
@@ -297,7 +297,7 @@ pub(crate) fn compound(
 /// What is read of the first 0, 1, 2, .. and all of a compound packet's bytes.
 pub(crate) fn compound_cuts(
     alloc: Global,
-    parts: &[Part],
+    parts: &[NamedBytes],
     given: &str,
     into: &mut String,
 ) -> Result<(), Bad> {

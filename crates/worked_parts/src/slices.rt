@@ -19,7 +19,7 @@ use vc_slice::{
     encoded_len, encoded_lens,
 };
 use vc_types::{Component, Plan};
-use worked_common::{Bad, Part};
+use worked_common::{Bad, NamedBytes};
 
 // How slices are coded, and bytes that begin with one.
 #[derive(Drop)]
@@ -30,7 +30,7 @@ struct Cut {
 }
 
 // prefix bytes : size scaler : the bytes.
-fn cut_of(alloc: Global, parts: &[Part], given: &str) -> Result<Cut, Bad> {
+fn cut_of(alloc: Global, parts: &[NamedBytes], given: &str) -> Result<Cut, Bad> {
     let (prefix, rest) = parted(given)?;
     let (scaler, bytes) = parted(rest)?;
     Ok(Cut {
@@ -50,7 +50,7 @@ fn add_cut(alloc: Global, of: &Cut, bytes: &[u8], into: &mut String) -> Result<(
 /// The length of the slice that begins bytes: prefix bytes : size scaler : the bytes.
 pub(crate) fn cut_slice(
     alloc: Global,
-    parts: &[Part],
+    parts: &[NamedBytes],
     given: &str,
     into: &mut String,
 ) -> Result<(), Bad> {
@@ -69,7 +69,7 @@ fn add_cuts(alloc: Global, of: &Cut, into: &mut String) -> Result<(), Bad> {
 /// The same of the first 0, 1, 2, .. and all of the bytes.
 pub(crate) fn cut_cuts(
     alloc: Global,
-    parts: &[Part],
+    parts: &[NamedBytes],
     given: &str,
     into: &mut String,
 ) -> Result<(), Bad> {
@@ -86,7 +86,7 @@ fn slice_count(plan: &Plan) -> u32
 // A plan, and the number of a slice that it has.
 fn plan_and_slice(
     alloc: Global,
-    parts: &[Part],
+    parts: &[NamedBytes],
     plan: &str,
     slice: &str,
 ) -> Result<(Plan, u32), Bad>
@@ -100,7 +100,7 @@ fn plan_and_slice(
     Ok((plan, slice))
 }
 
-fn shared(bytes: Vec<u8>) -> Result<Bytes, Bad> {
+pub(crate) fn shared(bytes: Vec<u8>) -> Result<Bytes, Bad> {
     match Bytes::from_vec(bytes) {
         Ok(bytes) => Ok(bytes),
         Err(_) => Err(Bad::NoMemory),
@@ -108,7 +108,7 @@ fn shared(bytes: Vec<u8>) -> Result<Bytes, Bad> {
 }
 
 // A slice that is decoded: plan : number of the slice : its bytes.
-fn job_of(alloc: Global, parts: &[Part], given: &str) -> Result<SliceJob, Bad> {
+fn job_of(alloc: Global, parts: &[NamedBytes], given: &str) -> Result<SliceJob, Bad> {
     let (plan, rest) = parted(given)?;
     let (index, bytes) = parted(rest)?;
     let (plan, index) = plan_and_slice(alloc, parts, plan, index)?;
@@ -124,7 +124,7 @@ fn job_of(alloc: Global, parts: &[Part], given: &str) -> Result<SliceJob, Bad> {
     }
 }
 
-fn add_numbers(
+pub(crate) fn add_numbers(
     alloc: Global,
     into: &mut String,
     name: &str,
@@ -137,18 +137,22 @@ fn add_numbers(
     Ok(())
 }
 
-fn add_coefficients(alloc: Global, coeffs: &SliceCoeffs, into: &mut String) -> Result<(), Bad> {
+pub(crate) fn add_coefficients(
+    alloc: Global,
+    coeffs: &SliceCoeffs,
+    into: &mut String,
+) -> Result<(), Bad> {
     add_numbers(alloc, into, "y", &coeffs.component(Component::Y))?;
     add_numbers(alloc, into, "c1", &coeffs.component(Component::C1))?;
     add_numbers(alloc, into, "c2", &coeffs.component(Component::C2))
 }
 
-fn add_fault(alloc: Global, why: Unsound, into: &mut String) -> Result<(), Bad> {
+pub(crate) fn add_fault(alloc: Global, why: Unsound, into: &mut String) -> Result<(), Bad> {
     let word = format!(in alloc; "{why:?}")?;
     add_word(into, word.as_str())
 }
 
-fn decoded(alloc: Global, parts: &[Part], given: &str) -> Result<SliceDone, Bad> {
+fn decoded(alloc: Global, parts: &[NamedBytes], given: &str) -> Result<SliceDone, Bad> {
     let job = job_of(alloc, parts, given)?;
     Ok(decode(alloc, job)?)
 }
@@ -156,7 +160,7 @@ fn decoded(alloc: Global, parts: &[Part], given: &str) -> Result<SliceDone, Bad>
 /// The coefficients of a slice, or why it has none: plan : number of the slice : its bytes.
 pub(crate) fn slice(
     alloc: Global,
-    parts: &[Part],
+    parts: &[NamedBytes],
     given: &str,
     into: &mut String,
 ) -> Result<(), Bad> {
@@ -177,7 +181,7 @@ fn bits_of(coeffs: &SliceCoeffs) -> &'static str {
 /// In how many bits the coefficients of a slice are kept.
 pub(crate) fn slice_kept(
     alloc: Global,
-    parts: &[Part],
+    parts: &[NamedBytes],
     given: &str,
     into: &mut String,
 ) -> Result<(), Bad> {
@@ -303,7 +307,7 @@ fn planned_slice(plan: Plan, slice: u32, coeffs: SliceCoeffs) -> Result<PlannedS
 
 fn planned_slice_of(
     alloc: Global,
-    parts: &[Part],
+    parts: &[NamedBytes],
     plan: &str,
     slice: &str,
     coefficients: &str,
@@ -353,7 +357,7 @@ fn add_both(in_64: &str, in_32: &str, into: &mut String) -> Result<(), Bad> {
 /// These are encoded in 64 bits and, where they fit, in 32: what differs is told too.
 pub(crate) fn slice_written(
     alloc: Global,
-    parts: &[Part],
+    parts: &[NamedBytes],
     given: &str,
     into: &mut String,
 ) -> Result<(), Bad> {
@@ -415,7 +419,7 @@ fn lengths(alloc: Global, of: &PlannedSlice, indices: &str) -> Result<String, Ba
 /// They are found in 64 bits and, where the coefficients fit, in 32: what differs is told too.
 pub(crate) fn slice_lengths(
     alloc: Global,
-    parts: &[Part],
+    parts: &[NamedBytes],
     given: &str,
     into: &mut String,
 ) -> Result<(), Bad> {

@@ -6,7 +6,7 @@ use crate::ports::{add_front, fails};
 use crate::words::{add_bytes, add_word, bytes_of, natural, parted};
 use std::alloc::Global;
 use vc_ports::{Came, MemWire, PlainWire, Reached, Sent, Wire};
-use worked_common::{Bad, Part};
+use worked_common::{Bad, NamedBytes};
 
 fn listen<N: Wire>(wire: &mut N) -> bool
     ensures { IsTrue result → IsTrue (N.told wire.new).listens }
@@ -102,7 +102,7 @@ fn add_datagram(all: &mut Vec<Vec<u8>>, one: Vec<u8>) -> Result<(), Bad>
 }
 
 // Datagrams with a stroke between each two.
-fn datagrams(alloc: Global, parts: &[Part], text: &str) -> Result<Vec<Vec<u8>>, Bad>
+fn datagrams(alloc: Global, parts: &[NamedBytes], text: &str) -> Result<Vec<Vec<u8>>, Bad>
     ensures { IfOk result (λ all. AreDatagrams (datagrams_in all.items)) }
 {
     let mut all = Vec::new(alloc);
@@ -117,7 +117,7 @@ fn datagrams(alloc: Global, parts: &[Part], text: &str) -> Result<Vec<Vec<u8>>, 
 
 // A wire that has room for so many bytes and may be looped, whose calls of these numbers fail, and from
 // which these datagrams come.
-fn memory(alloc: Global, parts: &[Part], front: &str, coming: &str) -> Result<MemWire, Bad> {
+fn memory(alloc: Global, parts: &[NamedBytes], front: &str, coming: &str) -> Result<MemWire, Bad> {
     let mut words = front.split_whitespace();
     let room = natural(words.next().unwrap_or(""))? as usize;
     let looped = words.next() == Some("looped");
@@ -148,7 +148,7 @@ fn add_all_kept(alloc: Global, wire: &MemWire, into: &mut String) -> Result<(), 
 /// What an exchange over a wire in memory comes to, and what the wire keeps of it.
 pub(crate) fn memory_wire(
     alloc: Global,
-    parts: &[Part],
+    parts: &[NamedBytes],
     given: &str,
     into: &mut String,
 ) -> Result<(), Bad> {
@@ -163,7 +163,7 @@ pub(crate) fn memory_wire(
 /// What an exchange over a wire that never fails comes to.
 pub(crate) fn plain_wire(
     alloc: Global,
-    parts: &[Part],
+    parts: &[NamedBytes],
     given: &str,
     into: &mut String,
 ) -> Result<(), Bad> {

@@ -1,6 +1,6 @@
 //! The words of rows: numbers, and bytes as pairs of digits.
 use std::alloc::Global;
-use worked_common::{Bad, Part, put};
+use worked_common::{Bad, NamedBytes, put};
 
 /// A word, and how many of it, as in 0*64.
 pub(crate) fn times(word: &str) -> Result<(&str, u32), Bad> {
@@ -154,6 +154,14 @@ pub(crate) fn add_numbers(alloc: Global, into: &mut String, numbers: &[i128]) ->
     Ok(())
 }
 
+/// Adds numbers of 64 bits to a text.
+pub(crate) fn add_long(alloc: Global, into: &mut String, numbers: &[i64]) -> Result<(), Bad> {
+    for number in numbers {
+        add_number(alloc, into, i128::from(*number))?;
+    }
+    Ok(())
+}
+
 /// Adds numbers of 32 bits to a text.
 pub(crate) fn add_short(alloc: Global, into: &mut String, numbers: &[i32]) -> Result<(), Bad> {
     for number in numbers {
@@ -183,7 +191,7 @@ pub(crate) fn text(alloc: Global, word: &str) -> Result<String, Bad> {
 }
 
 /// The bytes that a text says.
-pub(crate) fn bytes_of(alloc: Global, parts: &[Part], text: &str) -> Result<Vec<u8>, Bad> {
+pub(crate) fn bytes_of(alloc: Global, parts: &[NamedBytes], text: &str) -> Result<Vec<u8>, Bad> {
     let mut bytes = Vec::new(alloc);
     put(alloc, parts, text, &mut bytes)?;
     Ok(bytes)
@@ -200,7 +208,12 @@ pub(crate) fn weighed(numbers: &[i128]) -> i128 {
     sum
 }
 
-fn spread_word(alloc: Global, parts: &[Part], word: &str, into: &mut String) -> Result<(), Bad> {
+fn spread_word(
+    alloc: Global,
+    parts: &[NamedBytes],
+    word: &str,
+    into: &mut String,
+) -> Result<(), Bad> {
     if word.starts_with('@') {
         let bytes = bytes_of(alloc, parts, word)?;
         return add_bytes(alloc, into, bytes.as_slice());
@@ -214,7 +227,7 @@ fn spread_word(alloc: Global, parts: &[Part], word: &str, into: &mut String) -> 
 
 /// The words of a text, with one space behind each: many of a word where it is as 0*64, and the bytes of
 /// parts.
-pub(crate) fn spread(alloc: Global, parts: &[Part], text: &str) -> Result<String, Bad> {
+pub(crate) fn spread(alloc: Global, parts: &[NamedBytes], text: &str) -> Result<String, Bad> {
     let mut all = String::new(alloc);
     for word in text.split_whitespace() {
         spread_word(alloc, parts, word, &mut all)?;

@@ -30,7 +30,8 @@ impl Kind {
             "next-picture" => Ok(Kind::Wrong(Given::OfNextPicture)),
             "another-plan" => Ok(Kind::Wrong(Given::OfAnotherPlan)),
             "other-bytes" => Ok(Kind::Wrong(Given::OfOtherBytes)),
-            "first-slice" => Ok(Kind::Wrong(Given::OfFirstSlice)),
+            "first-run" => Ok(Kind::Wrong(Given::OfFirstRun)),
+            "cut-short" => Ok(Kind::Wrong(Given::CutShort)),
             "opposite-order" => Ok(Kind::Wrong(Given::InOppositeOrder)),
             _ => Err(Bad::NoRow),
         }

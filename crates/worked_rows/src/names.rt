@@ -1,10 +1,10 @@
 use std::alloc::Global;
-use worked_common::{Bad, Part, put};
+use worked_common::{Bad, NamedBytes, put};
 
 /// What the lines of a file named so far.
 #[derive(Drop)]
 pub(crate) struct Names {
-    pub(crate) parts: Vec<Part>,
+    pub(crate) parts: Vec<NamedBytes>,
     /// The names of a tally's lines, in order.
     pub(crate) counts: String,
 }
@@ -23,7 +23,7 @@ impl Names {
             return Err(Bad::NoRow);
         }
         let name = String::from_str(alloc, name)?;
-        self.parts.push(Part { name, bytes })?;
+        self.parts.push(NamedBytes { name, bytes })?;
         Ok(())
     }
 

@@ -7,12 +7,14 @@ ghost use Rattle.claim_board.specs.Seats.{IsBellSeatOf, IsFeederOf, IsWorkerOf, 
 ghost use Rattle.claim_board.specs.Seats.{place_count};
 ghost use Rattle.claim_board.specs.Views.{lane, lane_at};
 
-use crate::jobs::empty_slice;
-use claim_board::{BellSeat, Board, FeederSeat, NotWaiting, NotYet, WorkerSeat, bell, rest, wake};
+use crate::jobs::{empty_slice, load_of};
+use claim_board::{
+    BellSeat, Board, ClaimedRun, FeederSeat, NotWaiting, NotYet, WorkerSeat, bell, rest, wake,
+};
 use std::alloc::Global;
 use std::sync::Wait;
 use std::test::Fail;
-use vc_slice::{SliceJob, decode};
+use vc_slice::{RunLoad, decode_run};
 use vc_types::NoMemory;
 
 // What is done at the only place.
@@ -88,7 +90,7 @@ fn claim(board: &Board, worker: &mut WorkerSeat) -> Answer
     ensures seat { IsWorkerOf board.now worker.new }
 {
     match board.claim(worker, 0) {
-        Ok(held) => Answer::Held(held.serial, held.job.number),
+        Ok(claimed) => Answer::Held(claimed.held.serial, claimed.load.job.number),
         Err(NotWaiting { word }) => Answer::Word(word),
     }
 }
@@ -99,8 +101,12 @@ fn work(alloc: Global, board: &Board, worker: &mut WorkerSeat) -> Result<Answer,
     ensures seat { IsWorkerOf board.now worker.new }
 {
     match board.claim(worker, 0) {
-        Ok(held) => {
-            let done = decode(alloc, held.job.copy()?)?;
+        Ok(claimed) => {
+            let ClaimedRun {
+                held,
+                load: RunLoad { job, room },
+            } = claimed;
+            let done = decode_run(alloc, job, room)?;
             board.complete(worker, held, done);
             Ok(Answer::Completed)
         }
@@ -110,11 +116,11 @@ fn work(alloc: Global, board: &Board, worker: &mut WorkerSeat) -> Result<Answer,
 
 impl Fresh {
     // Puts a job, and rings the bell. Whether the bell rose by 1 for each.
-    fn put<H: Wait + Copy + Drop>(&mut self, rt: H, job: SliceJob) -> bool
+    fn put<H: Wait + Copy + Drop>(&mut self, rt: H, load: RunLoad) -> bool
         requires { AreEmpty 1 (feeder_sees self.old.feeder) }
     {
         let rung = bell(&self.board, &mut self.first);
-        self.board.put(&mut self.feeder, 0, job);
+        self.board.put(&mut self.feeder, 0, load);
         wake(&self.board, &mut self.bells);
         rest(rt, &self.board, &mut self.first, rung);
         bell(&self.board, &mut self.first) == rung.wrapping_add(2)
@@ -126,7 +132,8 @@ impl Fresh {
         ensures { IfOk result (λ done. done ≡ true
             → lane_at (feeder_sees self.new.feeder) 0 ≡ lane 1 true false) }
     {
-        self.board.put(&mut self.feeder, 0, empty_slice(7)?);
+        self.board
+            .put(&mut self.feeder, 0, load_of(alloc, empty_slice(7)?)?);
         let worked = work(alloc, &self.board, &mut self.first)?;
         let Ok(done) = self.board.take(&mut self.feeder, 0) else {
             return Ok(false);
@@ -135,10 +142,10 @@ impl Fresh {
     }
 
     // Puts a job in the second round.
-    fn put_again(&mut self, job: SliceJob)
+    fn put_again(&mut self, load: RunLoad)
         requires { lane_at (feeder_sees self.old.feeder) 0 ≡ lane 1 true false }
     {
-        self.board.put(&mut self.feeder, 0, job);
+        self.board.put(&mut self.feeder, 0, load);
     }
 
     // Whether it goes round, and another job is withdrawn in the next round.
@@ -148,7 +155,7 @@ impl Fresh {
         if !self.goes_round(alloc)? {
             return Ok(false);
         }
-        self.put_again(empty_slice(9)?);
+        self.put_again(load_of(alloc, empty_slice(9)?)?);
         let waits = self.turn(alloc, Call::Take)?;
         let back = self.turn(alloc, Call::Withdraw)?;
         let empty = self.turn(alloc, Call::ClaimToo)?;
@@ -162,7 +169,7 @@ impl Fresh {
                 Err(NotYet { word }) => Answer::Word(word),
             }),
             Call::Withdraw => Ok(match self.board.withdraw(&mut self.feeder, 0) {
-                Ok(job) => Answer::Job(job.number),
+                Ok(load) => Answer::Job(load.job.number),
                 Err(NotWaiting { word }) => Answer::Word(word),
             }),
             Call::Claim => Ok(claim(&self.board, &mut self.first)),
@@ -219,7 +226,7 @@ fn answers_on_job<H: Wait + Copy + Drop>(
     calls: &[(Call, Answer)],
 ) -> Result<bool, NoMemory> {
     let mut fresh = new_board(alloc)?;
-    Ok(fresh.put(rt, empty_slice(7)?) && answers(alloc, &mut fresh, calls)?)
+    Ok(fresh.put(rt, load_of(alloc, empty_slice(7)?)?) && answers(alloc, &mut fresh, calls)?)
 }
 
 fn new_board_answers(alloc: Global, calls: &[(Call, Answer)]) -> Result<bool, NoMemory> {

@@ -9,7 +9,7 @@ use std::alloc::Global;
 use std::test::Fail;
 use std::thread::Threads;
 use vc_ports::MemSink;
-use vc_slice::{Places, SliceDone, SliceJob};
+use vc_slice::{Places, RunDone, RunLoad};
 use vc_types::NoMemory;
 use worked_common::{HEADER_PAYLOAD, params_payload, slice_payload};
 
@@ -32,17 +32,17 @@ impl Places for Counting {
 
     ghost told = { λ _. None };
 
-    fn put(&mut self, job: SliceJob) -> Result<u32, SliceJob> {
+    fn put(&mut self, load: RunLoad) -> Result<u32, RunLoad> {
         self.count();
-        Err(job)
+        Err(load)
     }
 
-    fn take(&mut self, _place: u32) -> Option<SliceDone> {
+    fn take(&mut self, _place: u32) -> Option<RunDone> {
         self.count();
         None
     }
 
-    fn withdraw(&mut self, _place: u32) -> Option<SliceJob> {
+    fn withdraw(&mut self, _place: u32) -> Option<RunLoad> {
         self.count();
         None
     }

@@ -6,7 +6,7 @@ ghost use Rattle.claim_board.specs.Calls.{IsNewWorker};
 ghost use Rattle.claim_board.specs.Feeders.{feeder_bound};
 ghost use Rattle.claim_board.specs.Seats.{IsWorkerOf, place_count};
 
-use crate::jobs::empty_slice;
+use crate::jobs::{empty_slice, load_of};
 use claim_board::{Board, BoardFeeder, WorkerSeat};
 use std::alloc::Global;
 use std::sync::Arc;
@@ -42,6 +42,7 @@ enum Answer {
 
 #[derive(Drop)]
 struct Fresh {
+    alloc: Global,
     board: Arc<Board>,
     form: BoardFeeder,
     worker: WorkerSeat,
@@ -76,6 +77,7 @@ fn new_form(alloc: Global) -> Result<Fresh, NoMemory> {
     let board = Arc::new(alloc, board)?;
     let form = BoardFeeder::new(alloc, Arc::try_clone(&board)?, feeder)?;
     Ok(Fresh {
+        alloc,
         board,
         form,
         worker,
@@ -91,15 +93,16 @@ fn job_or_nothing(number: Option<u64>) -> Answer {
 
 impl Fresh {
     fn put(&mut self, number: u64) -> Result<Answer, NoMemory> {
-        Ok(match self.form.put(empty_slice(number)?) {
+        let load = load_of(self.alloc, empty_slice(number)?)?;
+        Ok(match self.form.put(load) {
             Ok(place) => Answer::At(place),
-            Err(job) => Answer::Job(job.number),
+            Err(load) => Answer::Job(load.job.number),
         })
     }
 
     fn claim(&mut self, place: Place) -> Answer {
         match self.board.claim(&mut self.worker, number_of(place)) {
-            Ok(held) => Answer::Job(held.job.number),
+            Ok(held) => Answer::Job(held.load.job.number),
             Err(_) => Answer::Nothing,
         }
     }
@@ -112,8 +115,8 @@ impl Fresh {
                 Ok(job_or_nothing(done.map(|done| done.job.number)))
             }
             Call::Withdraw(place) => {
-                let job = self.form.withdraw(number_of(place));
-                Ok(job_or_nothing(job.map(|job| job.number)))
+                let load = self.form.withdraw(number_of(place));
+                Ok(job_or_nothing(load.map(|load| load.job.number)))
             }
             Call::Leave(place) => {
                 self.form.leave(number_of(place));

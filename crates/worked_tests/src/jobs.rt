@@ -1,7 +1,8 @@
-//! Slices to be decoded.
+//! Runs of slices to be decoded.
 
 use bytes::Bytes;
-use vc_slice::{CoefficientList, SliceDone, SliceJob};
+use std::alloc::Global;
+use vc_slice::{RunAnswer, RunDone, RunJob, RunLoad, SliceJob};
 use vc_types::{Component, NoMemory};
 use worked_common::{THREE_SLICES, TWO_SLICES, job_of};
 
@@ -20,13 +21,46 @@ pub(crate) fn edged_slice(number: u64, index: u32) -> Result<SliceJob, NoMemory>
     job_of(THREE_SLICES, number, index, Bytes::from_static(&SLICE)).ok_or(NoMemory)
 }
 
-/// Whether a slice with two coefficients was decoded.
-pub(crate) fn is_edged(done: &SliceDone) -> bool {
+/// A run of one slice.
+pub(crate) fn load_of(alloc: Global, job: SliceJob) -> Result<RunLoad, NoMemory> {
+    Ok(RunLoad {
+        job: RunJob::of(alloc, job)?,
+        room: Vec::new(alloc),
+    })
+}
+
+/// A run of so many of three slices, with two coefficients each, from one of them on.
+pub(crate) fn edged_run(
+    alloc: Global,
+    number: u64,
+    first: u32,
+    count: u32,
+) -> Result<RunLoad, NoMemory> {
+    let mut load = load_of(alloc, edged_slice(number, first)?)?;
+    for index in first.saturating_add(1)..first.saturating_add(count) {
+        let job = edged_slice(number, index)?;
+        if !load.job.goes_on(&job) {
+            return Err(NoMemory);
+        }
+        load.job.push(job)?;
+    }
+    Ok(load)
+}
+
+/// Whether each slice of a run with two coefficients each was decoded.
+pub(crate) fn is_edged_run(done: &RunDone) -> bool {
     match &done.answer {
-        Ok(coeffs) => match coeffs.component(Component::Y) {
-            CoefficientList::Narrow(numbers) => numbers == LUMA.as_slice(),
-            CoefficientList::Wide(_) => false,
-        },
-        Err(_) => false,
+        // The slices are side by side, and each subband of one has one coefficient.
+        RunAnswer::Together(strip) => {
+            let numbers = strip.component(Component::Y);
+            let count = done.job.slices.len();
+            for (i, number) in numbers.iter().enumerate() {
+                if LUMA.get(i / count) != Some(number) {
+                    return false;
+                }
+            }
+            numbers.len() == count.saturating_mul(LUMA.len())
+        }
+        RunAnswer::Apart(_) => false,
     }
 }

@@ -3,8 +3,9 @@
 ghost use Rattle.std.specs.Prelude.{◌≡◌, ◌<◌, IfOk, OnOk};
 ghost use Rattle.slice_pool.specs.Crews.{NotStarted, bound_at, crew_at};
 
-use crate::jobs::{edged_slice, is_edged};
+use crate::jobs::{edged_run, is_edged_run};
 use slice_pool::{Crew, Worker};
+use std::alloc::Global;
 use std::sync::Arc;
 use std::test::Fail;
 use std::thread::JoinHandle;
@@ -17,6 +18,7 @@ const PLACES: usize = 256;
 // Which job was put into each place, 0 where none is there, and which places were left.
 #[derive(Drop)]
 struct Book {
+    alloc: Global,
     numbers: [u64; PLACES],
     left: [bool; PLACES],
     // Where the last job was put.
@@ -30,7 +32,9 @@ impl Book {
         requires { P.bound places.old ≡ 256 }
         ensures { OnOk result (P.bound places.new ≡ 256) }
     {
-        let Ok(place) = places.put(edged_slice(number, 0)?) else {
+        // Runs of one, two and three slices in turn.
+        let load = edged_run(self.alloc, number, 0, (number % 3) as u32 + 1)?;
+        let Ok(place) = places.put(load) else {
             return Ok(true);
         };
         self.last = place;
@@ -47,7 +51,7 @@ impl Book {
         ensures { P.bound places.new ≡ 256 }
     {
         match places.take(place) {
-            Some(done) => self.is_back(place, done.job.number) && is_edged(&done),
+            Some(done) => self.is_back(place, done.job.number) && is_edged_run(&done),
             None => true,
         }
     }
@@ -57,7 +61,7 @@ impl Book {
         ensures { P.bound places.new ≡ 256 }
     {
         match places.withdraw(place) {
-            Some(job) => self.is_back(place, job.number),
+            Some(load) => self.is_back(place, load.job.number),
             None => true,
         }
     }
@@ -109,10 +113,11 @@ impl Book {
 }
 
 // Whether each answer in ten thousand calls is of its own job.
-fn are_answers_own<P: Places>(places: &mut P) -> Result<bool, NoMemory>
+fn are_answers_own<P: Places>(alloc: Global, places: &mut P) -> Result<bool, NoMemory>
     requires { P.bound places.old ≡ 256 }
 {
     let mut book = Book {
+        alloc,
         numbers: [0; PLACES],
         left: [false; PLACES],
         last: 0,
@@ -131,13 +136,14 @@ fn are_answers_own<P: Places>(places: &mut P) -> Result<bool, NoMemory>
 
 // The same of four workers.
 fn work_for<H, F: Fn(Worker) -> Option<JoinHandle<()>>>(
+    alloc: Global,
     crew: &mut Crew<H, F>,
 ) -> Result<bool, NoMemory>
     requires free { crew_at crew.old ≡ NotStarted }
     requires callable { F.IsAlwaysCallable crew.old.start }
 {
     crew.start_workers(4)?;
-    are_answers_own(crew)
+    are_answers_own(alloc, crew)
 }
 
 #[test]
@@ -145,7 +151,7 @@ fn answers_belong_to_their_jobs(rt: HostRuntime) -> Result<(), Fail> {
     let alloc = rt.alloc();
     let gate = Arc::new(alloc, NoGate)?;
     let mut crew = Crew::new(rt, alloc, |worker: Worker| worker.start(rt, &gate));
-    let are_own = work_for(&mut crew);
+    let are_own = work_for(alloc, &mut crew);
     crew.stop();
     assert!(rt; are_own?);
     Ok(())
