@@ -4,7 +4,7 @@ use Rattle.std.specs.List.{range_with_len, enumerate_from, list_any}
 use Rattle.std.proofs.lemmas.Int.{ints}
 use Rattle.std.proofs.lemmas.List.FromFn.{length-map-range_with_len, get_or-map-range_with_len}
 use Rattle.field_pairs.specs.Sizes.{IsWhole}
-use Rattle.link_model.specs.SendingPictures.{HasSides, plane_in, sent_cells, number_in, numbers_in_slice, sent_coefficients, sent_slice, sent_slices}
+use Rattle.link_model.specs.SendingPictures.{HasSides, plane_in, sent_cells, number_at_place, numbers_in_slice, sent_coefficients, sent_slice, sent_slices}
 use Rattle.field_pairs.proofs.RowsOfRasters.{raster_of_plane}
 use Rattle.vc_types.specs.declared.video.Component.{Component}
 use Rattle.vc_types.specs.Pictures.{component_cells, slices_from, decoded_picture}
@@ -55,7 +55,7 @@ module _ (p : Parameters) (planes : Planes) (across : 0 < p.slices_x) (down : 0 
 
   pub length-own : (c : Component) (n : ℕ) → length (coefficients_of (sent_coefficients p planes n) c) ≡ slice_coefficient_count p c n
   unfolding numbers_in_slice
-  length-own c n = ap length (own c n) ∙ length-map-range_with_len (λ i. number_in (sent_cells p planes c) (coefficient_place p c n i)) 0 (slice_coefficient_count p c n)
+  length-own c n = ap length (own c n) ∙ length-map-range_with_len (λ i. number_at_place (sent_cells p planes c) (coefficient_place p c n i)) 0 (slice_coefficient_count p c n)
 
   at : (n : ℕ) → n < slice_count p → get_or all n none ≡ sent_coefficients p planes n
   at n below = get_or-map-range_with_len (sent_coefficients p planes) 0 (slice_count p) n n none below (omega arith)
@@ -66,9 +66,9 @@ module _ (p : Parameters) (planes : Planes) (across : 0 < p.slices_x) (down : 0 
   whole : (c : Component) → AreWhole p c across down none 0 all
   whole c k below = ap (λ (s : Coefficients). length (coefficients_of s c)) (at k (omega (arith, below, many))) ∙ length-own c k ∙ ap (slice_coefficient_count p c) (omega arith)
 
-  number_is : (c : Component) (n i : ℕ) → i < slice_coefficient_count p c n → get_or (coefficients_of (sent_coefficients p planes n) c) i (pos 0) ≡ number_in (sent_cells p planes c) (coefficient_place p c n i)
+  number_is : (c : Component) (n i : ℕ) → i < slice_coefficient_count p c n → get_or (coefficients_of (sent_coefficients p planes n) c) i (pos 0) ≡ number_at_place (sent_cells p planes c) (coefficient_place p c n i)
   unfolding numbers_in_slice
-  number_is c n i below = ap (λ (l : List ℤ). get_or l i (pos 0)) (own c n) ∙ get_or-map-range_with_len (λ i. number_in (sent_cells p planes c) (coefficient_place p c n i)) 0 (slice_coefficient_count p c n) i i (pos 0) below (omega arith)
+  number_is c n i below = ap (λ (l : List ℤ). get_or l i (pos 0)) (own c n) ∙ get_or-map-range_with_len (λ i. number_at_place (sent_cells p planes c) (coefficient_place p c n i)) 0 (slice_coefficient_count p c n) i i (pos 0) below (omega arith)
 
   -- each cell of the grid has its coefficient again
   cells_back : (c : Component) (x y : ℕ) → x < padded_width p c → y < padded_height p c → component_cells p c all x y ≡ sent_cells p planes c x y
@@ -77,7 +77,7 @@ module _ (p : Parameters) (planes : Planes) (across : 0 < p.slices_x) (down : 0 
       component_cells-met p c across down none all (omega (arith, many)) (whole c) x y met (omega (arith, many, met.slice_below))
       ∙ ap (λ (s : Coefficients). get_or (coefficients_of s c) met.number (pos 0)) (at met.slice met.slice_below)
       ∙ number_is c met.slice met.number met.number_below
-      ∙ ap (number_in (sent_cells p planes c)) met.place
+      ∙ ap (number_at_place (sent_cells p planes c)) met.place
 
   module _ (c : Component) (size : HasSides (plane_width p.shape c) (plane_height p.shape c) (plane_in planes c)) (all_there : IsWhole (plane_in planes c)) (symmetric : IsTrue (is_symmetric p)) (depth : 1 ≤ plane_depth p.shape c) (small : (x y : ℕ) → sample_at (plane_in planes c) x y < 2 ^ plane_depth p.shape c) where
     cell_is : (x y : ℕ) → x < plane_width p.shape c → y < plane_height p.shape c → inverse_transform p c (component_cells p c all) x y ≡ pos (sample_at (plane_in planes c) x y) -ℤ pos (2 ^ (plane_depth p.shape c - 1))
@@ -152,7 +152,7 @@ pub record IsSendable (p : Parameters) (planes : Planes) : Type 0 where
 module _ (p : Parameters) (planes : Planes) (is : IsSendable p planes) where
   small_in : (c : Component) (n : ℕ) → list_any is_large (numbers_in_slice p c (sent_cells p planes c) n) ≡ false
   unfolding numbers_in_slice
-  small_in c n = none_large (λ i. number_in (sent_cells p planes c) (coefficient_place p c n i)) (λ i. cells_below p planes c (is.each c) is.levels (coefficient_place p c n i).0 (coefficient_place p c n i).1) (range_with_len 0 (slice_coefficient_count p c n))
+  small_in c n = none_large (λ i. number_at_place (sent_cells p planes c) (coefficient_place p c n i)) (λ i. cells_below p planes c (is.each c) is.levels (coefficient_place p c n i).0 (coefficient_place p c n i).1) (range_with_len 0 (slice_coefficient_count p c n))
 
   -- the slices of a picture at index 0
   abbrev pub slices_at_zero : List (List ℕ)

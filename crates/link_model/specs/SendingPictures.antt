@@ -87,13 +87,13 @@ plane_in planes C2 = planes.c2
 unfoldable pub sent_cells : Parameters → Planes → Component → Cells
 sent_cells p planes c = forward_transform p c (sample_at (plane_in planes c))
 
-abbrev pub number_in : Cells → Place → ℤ
-number_in cells place = cells place.0 place.1
+abbrev pub number_at_place : Cells → Place → ℤ
+number_at_place cells place = cells place.0 place.1
 
 -- those of a slice, in the slice's order
 unfoldable pub numbers_in_slice : Parameters → Component → Cells → ℕ → List ℤ
 numbers_in_slice p c cells slice =
-    map (λ i. number_in cells (coefficient_place p c slice i))
+    map (λ i. number_at_place cells (coefficient_place p c slice i))
     (range_with_len 0 (slice_coefficient_count p c slice))
 
 unfoldable pub sent_coefficients : Parameters → Planes → ℕ → Coefficients

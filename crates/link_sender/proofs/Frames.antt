@@ -23,7 +23,7 @@ use Rattle.link_sender.proofs.SampleFaults.{none_rest, says_first, says_rest}
 use Rattle.picture_encode.specs.declared.refusal.SliceRefusal.{SliceRefusal}
 use Rattle.picture_encode.specs.declared.refusal.SliceRefusal.TheVariants.{SliceTooLarge, NoMemory}
 use Rattle.picture_encode.specs.declared.slices.EncodedSlice.{EncodedSlice}
-use Rattle.picture_encode.specs.Encoded.{Chooses, AreFirstAnswers, AreFirstSlices, IsRefusedPicture, indices_of, slice_bytes}
+use Rattle.picture_encode.specs.Encoded.{Chooses, AreFirstAnswers, AreFirstSlices, IsRefusedPicture, indices_of, bytes_of_slices}
 use Rattle.picture_encode.specs.Refusals.{Tells}
 use Rattle.vc_types.specs.Planes.{Planes}
 use Rattle.vc_types.specs.SenderSettings.{Sending}
@@ -104,7 +104,7 @@ module _ (choice : Chooses) (wanted : Bool) (s : Sending) where
             subst (λ l. AllZip choice l (own ++ rest.indices)) (sym (flat_map-cons needs planes pictures))
             (zip_join choice (needs planes) own (flat_map needs pictures) rest.indices (subst (λ l. AllZip choice l own) (sym (needs_are planes)) first.answers) rest.answers);
         fit = next_fault planes own rest.indices whole pictures first.fit ∙ rest.fit;
-        outgoing_are = λ picture. next_outgoing planes own rest.indices whole picture pictures (slice_bytes slices) (coded_pictures_outgoing s (picture + 1) coded) first.bytes_are (rest.outgoing_are (picture + 1));
+        outgoing_are = λ picture. next_outgoing planes own rest.indices whole picture pictures (bytes_of_slices slices) (coded_pictures_outgoing s (picture + 1) coded) first.bytes_are (rest.outgoing_are (picture + 1));
       }
 
   -- ---- a picture that is refused

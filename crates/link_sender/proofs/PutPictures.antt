@@ -23,7 +23,7 @@ use Rattle.link_sender.specs.Sent.{IsPicture, coded_frame_outgoing, coded_outgoi
 use Rattle.link_sender.proofs.Numbered.{appends_more}
 use Rattle.link_sender.proofs.SentBytes.{datagrams_count}
 use Rattle.picture_encode.specs.declared.slices.EncodedSlice.{EncodedSlice}
-use Rattle.picture_encode.specs.Encoded.{IsSized, slice_bytes}
+use Rattle.picture_encode.specs.Encoded.{IsSized, bytes_of_slices}
 use Rattle.vc_types.specs.Bits.{digit_of}
 use Rattle.vc_types.specs.Limits.{slices_fit}
 use Rattle.vc_types.specs.Subbands.{slice_count}
@@ -142,16 +142,16 @@ some_slices across down fits = grind (arith, common_steps, nat_tests, mul-pos)
 abbrev bytes_of : EncodedSlice → List ℕ
 bytes_of e = e.bytes.items
 
-pub own_bytes : (slices : List EncodedSlice) (i : ℕ) (item : EncodedSlice) → i < length slices → item ≡ get_or slices i item → get_or (slice_bytes slices) i (item.bytes.items) ≡ item.bytes.items
+pub own_bytes : (slices : List EncodedSlice) (i : ℕ) (item : EncodedSlice) → i < length slices → item ≡ get_or slices i item → get_or (bytes_of_slices slices) i (item.bytes.items) ≡ item.bytes.items
 own_bytes slices i item inside is = get_or-map bytes_of slices i item item.bytes.items inside ∙ ap bytes_of (sym is)
 
-pub next_slice : (slices : List EncodedSlice) (i : ℕ) (item : EncodedSlice) → i < length slices → item ≡ get_or slices i item → take (i + 1) (slice_bytes slices) ≡ take i (slice_bytes slices) ++ item.bytes.items ∷ []
+pub next_slice : (slices : List EncodedSlice) (i : ℕ) (item : EncodedSlice) → i < length slices → item ≡ get_or slices i item → take (i + 1) (bytes_of_slices slices) ≡ take i (bytes_of_slices slices) ++ item.bytes.items ∷ []
 next_slice slices i item inside is =
     let long = length-map slices bytes_of in
     let next : i + 1 ≡ suc i = omega arith in
-    ap (λ k. take k (slice_bytes slices)) next
-    ∙ take-suc (slice_bytes slices) i item.bytes.items (omega (arith, inside, long))
-    ∙ ap (λ b. take i (slice_bytes slices) ++ b ∷ []) (own_bytes slices i item inside is)
+    ap (λ k. take k (bytes_of_slices slices)) next
+    ∙ take-suc (bytes_of_slices slices) i item.bytes.items (omega (arith, inside, long))
+    ∙ ap (λ b. take i (bytes_of_slices slices) ++ b ∷ []) (own_bytes slices i item inside is)
 
 pub all_fit : (s : Sending) (p : Picture) (slices : List (List ℕ)) → packing_view p.settings ≡ packing_of s → All (IsSized s) slices → All (FitsRun (packing_view p.settings)) slices
 all_fit s p slices is sized =
@@ -178,19 +178,19 @@ module _ (s : Sending) (coded : FrameSlices) where
   at f = f * pictures_per_frame s
 
   pub one_sent : (f : ℕ) (slices : List EncodedSlice) (x y : Outbox) → slices ≡ coded.first.items → coded.second ≡ None
-      → Appends s (coded_outgoing s (at f + 0) (slice_bytes slices)) x y → Appends s (coded_frame_outgoing s f coded) x y
+      → Appends s (coded_outgoing s (at f + 0) (bytes_of_slices slices)) x y → Appends s (coded_frame_outgoing s f coded) x y
   one_sent f slices x y is none appends = grind (arith, common_steps, append-nil)
 
   pub two_sent : (f : ℕ) (slices others : List EncodedSlice) (second : Vec EncodedSlice) (x y z : Outbox) → slices ≡ coded.first.items → coded.second ≡ Some second → others ≡ second.items
-      → Appends s (coded_outgoing s (at f + 0) (slice_bytes slices)) x y → Appends s (coded_outgoing s (at f + 1) (slice_bytes others)) y z → Appends s (coded_frame_outgoing s f coded) x z
+      → Appends s (coded_outgoing s (at f + 0) (bytes_of_slices slices)) x y → Appends s (coded_outgoing s (at f + 1) (bytes_of_slices others)) y z → Appends s (coded_frame_outgoing s f coded) x z
   two_sent f slices others second x y z is some are one two =
       let here : at f + 0 ≡ at f = omega arith in
-      let a = coded_outgoing s (at f + 0) (slice_bytes slices) in
-      let b = coded_outgoing s (at f + 1) (slice_bytes others) in
+      let a = coded_outgoing s (at f + 0) (bytes_of_slices slices) in
+      let b = coded_outgoing s (at f + 1) (bytes_of_slices others) in
       let outgoing : a ++ b ≡ coded_frame_outgoing s f coded =
-      (λ i. coded_outgoing s (here i) (slice_bytes (is i)) ++ coded_outgoing s (at f + 1) (slice_bytes (are i)))
-      ∙ ap (λ l. coded_outgoing s (at f) (slice_bytes coded.first.items) ++ l) (sym (append-nil (coded_outgoing s (at f + 1) (slice_bytes second.items))))
-      ∙ ap (λ (o : Option (Vec EncodedSlice)). coded_outgoing s (at f) (slice_bytes coded.first.items) ++ coded_pictures_outgoing s (at f + 1) (second_pictures o)) (sym some) in
+      (λ i. coded_outgoing s (here i) (bytes_of_slices (is i)) ++ coded_outgoing s (at f + 1) (bytes_of_slices (are i)))
+      ∙ ap (λ l. coded_outgoing s (at f) (bytes_of_slices coded.first.items) ++ l) (sym (append-nil (coded_outgoing s (at f + 1) (bytes_of_slices second.items))))
+      ∙ ap (λ (o : Option (Vec EncodedSlice)). coded_outgoing s (at f) (bytes_of_slices coded.first.items) ++ coded_pictures_outgoing s (at f + 1) (second_pictures o)) (sym some) in
       subst (λ (l : List Outgoing). Appends s l x z) outgoing (appends_more s a b x y z one two)
 
 -- ---- the numbers behind a frame

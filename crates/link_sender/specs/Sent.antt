@@ -15,7 +15,7 @@ use Rattle.link_sender.specs.Packing.{bytes_of_all}
 use Rattle.link_sender.specs.Refusals.{SaysFault}
 use Rattle.picture_encode.specs.declared.refusal.SliceRefusal.{SliceRefusal}
 use Rattle.picture_encode.specs.declared.slices.EncodedSlice.{EncodedSlice}
-use Rattle.picture_encode.specs.Encoded.{Chooses, AreFirstSlices, IsSized, slice_bytes}
+use Rattle.picture_encode.specs.Encoded.{Chooses, AreFirstSlices, IsSized, bytes_of_slices}
 use Rattle.picture_encode.specs.Refusals.{Tells}
 use Rattle.vc_types.specs.Planes.{Planes}
 use Rattle.vc_types.specs.SenderSettings.{Sending}
@@ -61,7 +61,7 @@ EncodesFrame choice wanted s frame (Err e) =
 -- encoded slices are a picture's, and each fits a datagram
 pub record IsPicture (s : Sending) (slices : List EncodedSlice) : Type 0 where
   pub count : length slices ≡ s.across * s.down
-  pub sized : All (IsSized s) (slice_bytes slices)
+  pub sized : All (IsSized s) (bytes_of_slices slices)
 
 pub record ArePictures (s : Sending) (coded : FrameSlices) : Type 0 where
   pub many : length (slices_by_picture coded) ≡ pictures_per_frame s
@@ -77,7 +77,7 @@ coded_outgoing s picture slices = map (outgoing picture)
 abbrev pub coded_pictures_outgoing : Sending → ℕ → List (List EncodedSlice) → List Outgoing
 coded_pictures_outgoing s picture [] = []
 coded_pictures_outgoing s picture (slices ∷ pictures) =
-    coded_outgoing s picture (slice_bytes slices)
+    coded_outgoing s picture (bytes_of_slices slices)
     ++ coded_pictures_outgoing s (picture + 1) pictures
 
 -- of frame f

@@ -5,7 +5,7 @@ ghost use Rattle.stream_model.specs.Packing.{AreAllSlices, first_large_slice, sl
 ghost use Rattle.link_sender.specs.declared.outbox.Outbox.{Outbox};
 ghost use Rattle.link_sender.specs.Puts.{PutsDatagrams};
 ghost use Rattle.link_sender.specs.Runs.{EndsRun, FitsRun, HoldsSlices, PacksSlices, run_with_slices};
-ghost use Rattle.picture_encode.specs.Encoded.{slice_bytes};
+ghost use Rattle.picture_encode.specs.Encoded.{bytes_of_slices};
 ghost use Rattle.vc_types.specs.SenderSettings.{packing_view};
 ghost use Rattle.vc_types.specs.Subbands.{slice_count};
 ghost use Rattle.vc_types.specs.TransformParameters.{parameters_of};
@@ -69,10 +69,10 @@ impl Outbox {
         slices: &[EncodedSlice],
     ) -> Result<(), NoMemory>
         requires count { length slices.now ≡ slice_count (parameters_of p.now.plan.now) }
-        requires fit { All (FitsRun (packing_view p.now.settings)) (slice_bytes slices.now) }
+        requires fit { All (FitsRun (packing_view p.now.settings)) (bytes_of_slices slices.now) }
         ensures { OnOk result (PutsDatagrams p.now
             (map SlicesContent (runs_of_slices (slices_room (packing_view p.now.settings))
-            (slice_bytes slices.now)))
+            (bytes_of_slices slices.now)))
             self.old self.new) }
     {
         let mut run = OpenRun::new(self.alloc);

@@ -8,7 +8,7 @@ ghost use Rattle.link_sender.specs.Sent.{coded_frame_outgoing, coded_outgoing, n
 ghost use Rattle.link_sender.specs.State.{numbers_of, EndsSequence};
 ghost use Rattle.picture_encode.specs.Answering.{Answers};
 ghost use Rattle.picture_encode.specs.Choosing.{AnswersAtMost127};
-ghost use Rattle.picture_encode.specs.Encoded.{slice_bytes};
+ghost use Rattle.picture_encode.specs.Encoded.{bytes_of_slices};
 ghost use Rattle.vc_types.specs.Bits.{bits_of};
 ghost use Rattle.vc_types.specs.Planes.{planes_in};
 ghost use Rattle.vc_types.specs.SenderSettings.{packing_view, sending_view};
@@ -169,7 +169,7 @@ impl<F: Fn(&SliceNeed) -> u8> Sender<F> {
         requires whole { IsPicture (sending_view self.now.settings) slices.now }
         ensures { OnOk result (Appends (sending_view self.now.settings)
             (coded_outgoing (sending_view self.now.settings)
-            (picture_at (sending_view self.now.settings) place.now) (slice_bytes slices.now))
+            (picture_at (sending_view self.now.settings) place.now) (bytes_of_slices slices.now))
             outbox.old outbox.new) }
     {
         let header = write_header(self.alloc, &self.header)?;

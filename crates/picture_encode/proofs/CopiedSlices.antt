@@ -6,7 +6,7 @@ use Rattle.std.proofs.lemmas.List.{ext_get_or}
 use Rattle.std.proofs.lemmas.List.FromFn.{length-map-range_with_len, get_or-map-range_with_len}
 use Rattle.std.proofs.lemmas.Nat.{div-add-mod', div_below, mod_below}
 use Rattle.std.proofs.Math.Nat.{add-mul, mul-le-mul_right}
-use Rattle.link_model.specs.SendingPictures.{number_in, numbers_in_slice}
+use Rattle.link_model.specs.SendingPictures.{number_at_place, numbers_in_slice}
 use Rattle.vc_types.specs.declared.rect.Rect.{Rect}
 use Rattle.vc_types.specs.declared.video.Component.{Component}
 use Rattle.vc_types.specs.Lifting.{line_of}
@@ -51,7 +51,7 @@ module _ (cells : List ℤ) (stride from first step : ℕ) (r : Rect) where
   pub rect_numbers : (turned : ℕ → ℕ → ℕ) (new : List ℤ) → r.x + r.width ≤ stride
       → ((x row : ℕ) → r.x ≤ x → x < r.x + r.width → row < r.height → turned x (r.y + row) ≡ first + row * step)
       → ((row x : ℕ) → row < r.height → x < r.width → line_of new (from + row * r.width + x) ≡ cell_there row x)
-      → (j : ℕ) → j < area r → line_of new (from + j) ≡ number_in (λ x y. plane_of stride cells x (turned x y)) (place_in r j)
+      → (j : ℕ) → j < area r → line_of new (from + j) ≡ number_at_place (λ x y. plane_of stride cells x (turned x y)) (place_in r j)
   rect_numbers turned new across stands copied j h =
       let x = j % r.width in
       let row = j / r.width in
@@ -82,8 +82,8 @@ module _ (p : Parameters) (c : Component) (slice : ℕ) (cells : Cells) where
       omega (arith, more, same, so_far, sum)
 
   pub rect_copied : (b from next : ℕ) (r : Rect) (old new : List ℤ) → b < subband_count p.depth_ho p.depth → r ≡ slice_rectangle p c (subband_at p.depth_ho p.depth b) slice → from ≡ coefficients_before p c slice b → next ≡ from + area r
-      → ((j : ℕ) → j < area r → line_of new (from + j) ≡ number_in cells (place_in r j)) → ((i : ℕ) → (i < from) ⊎ (from + area r ≤ i) → line_of new i ≡ line_of old i)
-      → ((i : ℕ) → i < from → line_of old i ≡ number_in cells (coefficient_place p c slice i)) → (i : ℕ) → i < next → line_of new i ≡ number_in cells (coefficient_place p c slice i)
+      → ((j : ℕ) → j < area r → line_of new (from + j) ≡ number_at_place cells (place_in r j)) → ((i : ℕ) → (i < from) ⊎ (from + area r ≤ i) → line_of new i ≡ line_of old i)
+      → ((i : ℕ) → i < from → line_of old i ≡ number_at_place cells (coefficient_place p c slice i)) → (i : ℕ) → i < next → line_of new i ≡ number_at_place cells (coefficient_place p c slice i)
   rect_copied b from next r old new inside is so_far sum on off before i h = elim (cases_lt i from) [
     | inl earlier ↦ off i (inl earlier) ∙ before i earlier
     | inr here ↦ (
@@ -91,17 +91,17 @@ module _ (p : Parameters) (c : Component) (slice : ℕ) (cells : Cells) where
         let place : i ≡ from + j = omega arith in
         let below : j < area r = omega (arith, sum) in
         let whole : j < area (slice_rectangle p c (subband_at p.depth_ho p.depth b) slice) = subst (λ (q : Rect). j < area q) is below in
-        ap (line_of new) place ∙ on j below ∙ ap (λ (q : Rect). number_in cells (place_in q j)) is
-        ∙ ap (number_in cells) (sym (walked p c slice b inside j whole))
-        ∙ ap (λ n. number_in cells (coefficient_place p c slice n)) (ap (λ n. n + j) (sym so_far) ∙ sym place))
+        ap (line_of new) place ∙ on j below ∙ ap (λ (q : Rect). number_at_place cells (place_in q j)) is
+        ∙ ap (number_at_place cells) (sym (walked p c slice b inside j whole))
+        ∙ ap (λ n. number_at_place cells (coefficient_place p c slice n)) (ap (λ n. n + j) (sym so_far) ∙ sym place))
   ]
 
   pub all_copied : (b from : ℕ) (coeffs : List ℤ) → b ≡ subband_count p.depth_ho p.depth → from ≡ coefficients_before p c slice b → length coeffs ≡ slice_coefficient_count p c slice
-      → ((i : ℕ) → i < from → line_of coeffs i ≡ number_in cells (coefficient_place p c slice i)) → coeffs ≡ numbers_in_slice p c cells slice
+      → ((i : ℕ) → i < from → line_of coeffs i ≡ number_at_place cells (coefficient_place p c slice i)) → coeffs ≡ numbers_in_slice p c cells slice
   unfolding numbers_in_slice
   all_copied b from coeffs last so_far whole copied =
       let total = slice_coefficient_count p c slice in
-      let f : ℕ → ℤ = λ i. number_in cells (coefficient_place p c slice i) in
+      let f : ℕ → ℤ = λ i. number_at_place cells (coefficient_place p c slice i) in
       let all = coefficients_before-all p c slice b last in
       ext_get_or (pos 0) coeffs (map f (range_with_len 0 total)) (whole ∙ sym (length-map-range_with_len f 0 total))
       (λ i lt. copied i (omega (arith, lt, whole, all, so_far)) ∙ sym (get_or-map-range_with_len f 0 total i i (pos 0) (omega (arith, lt, whole)) (omega arith)))

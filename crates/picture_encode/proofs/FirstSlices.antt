@@ -8,7 +8,7 @@ use Rattle.std.proofs.lemmas.List.FromFn.{map-range_with_len_more, length-map-ra
 use Rattle.link_model.specs.SendingFaults as faults
 use Rattle.link_model.specs.SendingFaults.{SendFault, first_of_slices, is_too_large, slice_fault}
 use Rattle.link_model.specs.SendingPictures.{Need, need_of, sent_parameters, sent_slice}
-use Rattle.picture_encode.specs.Encoded.{Chooses, IsSized, IsEncoded, IsRefusedSlice, AreSlices, RefusesSlices, EncodesSlices, AreFirstAnswers, AreFirstSlices, IsRefusedPicture, indices_of, slice_bytes}
+use Rattle.picture_encode.specs.Encoded.{Chooses, IsSized, IsEncoded, IsRefusedSlice, AreSlices, RefusesSlices, EncodesSlices, AreFirstAnswers, AreFirstSlices, IsRefusedPicture, indices_of, bytes_of_slices}
 use Rattle.picture_encode.specs.declared.refusal.SliceRefusal.{SliceRefusal}
 use Rattle.picture_encode.specs.declared.refusal.SliceRefusal.TheVariants.{SliceTooLarge, NoMemory}
 use Rattle.picture_encode.specs.declared.slices.EncodedSlice.{EncodedSlice}
@@ -82,11 +82,11 @@ module _ (choice : Chooses) (wanted : Bool) (s : Sending) (planes : Planes) wher
   answers_of (n ∷ numbers) [] h = absurd h
   answers_of (n ∷ numbers) (e ∷ slices) h = (h.0.answer, answers_of numbers slices h.1)
 
-  sized_of : (numbers : List ℕ) (slices : List EncodedSlice) → AllZip Encoded numbers slices → All (IsSized s) (slice_bytes slices)
+  sized_of : (numbers : List ℕ) (slices : List EncodedSlice) → AllZip Encoded numbers slices → All (IsSized s) (bytes_of_slices slices)
   sized_of [] [] h = All-nil (IsSized s)
   sized_of [] (e ∷ slices) h = absurd h
   sized_of (n ∷ numbers) [] h = absurd h
-  sized_of (n ∷ numbers) (e ∷ slices) h = All-cons (IsSized s) e.bytes.items (slice_bytes slices) h.0.encoded.sized (sized_of numbers slices h.1)
+  sized_of (n ∷ numbers) (e ∷ slices) h = All-cons (IsSized s) e.bytes.items (bytes_of_slices slices) h.0.encoded.sized (sized_of numbers slices h.1)
 
   fit_of : (a n : ℕ) (slices : List EncodedSlice) → AllZip Encoded (range_with_len a n) slices → first_of_slices s planes (enumerate_from a (indices_of slices)) ≡ None
   fit_of a zero [] h = none_left s planes
@@ -94,7 +94,7 @@ module _ (choice : Chooses) (wanted : Bool) (s : Sending) (planes : Planes) wher
   fit_of a (suc n) [] h = absurd h
   fit_of a (suc n) (e ∷ slices) h = one_fits s planes (a, e.index) (enumerate_from (a + 1) (indices_of slices)) h.0.encoded.fits ∙ fit_of (a + 1) n slices h.1
 
-  bytes_of : (a n : ℕ) (slices : List EncodedSlice) → AllZip Encoded (range_with_len a n) slices → slice_bytes slices ≡ map piece (enumerate_from a (indices_of slices))
+  bytes_of : (a n : ℕ) (slices : List EncodedSlice) → AllZip Encoded (range_with_len a n) slices → bytes_of_slices slices ≡ map piece (enumerate_from a (indices_of slices))
   bytes_of a zero [] h = refl
   bytes_of a zero (e ∷ slices) h = absurd h
   bytes_of a (suc n) [] h = absurd h

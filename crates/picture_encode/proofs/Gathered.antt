@@ -8,7 +8,7 @@ use Rattle.std.proofs.lemmas.List.{ext_get_or, length-take-le, length-drop, get_
 use Rattle.std.proofs.lemmas.List.FromFn.{map-range_with_len_more, length-map-range_with_len, get_or-map-range_with_len}
 use Rattle.std.proofs.lemmas.Nat.{div-mul-add, mod-mul-add}
 use Rattle.std.proofs.Math.Nat.{add-mul}
-use Rattle.link_model.specs.SendingPictures.{number_in}
+use Rattle.link_model.specs.SendingPictures.{number_at_place}
 use Rattle.vc_types.specs.declared.rect.Rect.{Rect}
 use Rattle.vc_types.specs.Rasters.{Lattice, cell_at}
 use Rattle.vc_types.specs.Subbands.{place_in}
@@ -58,7 +58,7 @@ module _ (g : Lattice) (r : Rect) (whole : length g.cells ≡ g.width * g.height
   pub row_within : (row : ℕ) → row < r.height → (r.y + row) * g.width + r.x + r.width ≤ length g.cells
   row_within row h = let e = row_end (r.y + row) g.height g.width (omega arith) in omega (arith, e, whole)
 
-  number_at : (row j : ℕ) → row < r.height → j < r.width → slice_index_or g.cells ((r.y + row) * g.width + r.x + j) (pos 0) ≡ number_in (cell_at g) (place_in r (row * r.width + j))
+  number_at : (row j : ℕ) → row < r.height → j < r.width → slice_index_or g.cells ((r.y + row) * g.width + r.x + j) (pos 0) ≡ number_at_place (cell_at g) (place_in r (row * r.width + j))
   unfolding cell_at
   number_at row j h k =
       let n = row * r.width + j in
@@ -71,22 +71,22 @@ module _ (g : Lattice) (r : Rect) (whole : length g.cells ≡ g.width * g.height
       ∙ ap (λ (b : Bool). cond b (slice_index_or g.cells ((r.y + row) * g.width + (r.x + j)) (pos 0)) (pos 0)) (sym is_in) in
       one ∙ (λ i. cell_at g (r.x + sym x i) (r.y + sym y i))
 
-  pub row_numbers : (row : ℕ) → row < r.height → slice_range g.cells ((r.y + row) * g.width + r.x) ((r.y + row) * g.width + r.x + r.width) ≡ map (λ j. number_in (cell_at g) (place_in r (row * r.width + j))) (range_with_len 0 r.width)
+  pub row_numbers : (row : ℕ) → row < r.height → slice_range g.cells ((r.y + row) * g.width + r.x) ((r.y + row) * g.width + r.x + r.width) ≡ map (λ j. number_at_place (cell_at g) (place_in r (row * r.width + j))) (range_with_len 0 r.width)
   row_numbers row h =
       part_is (pos 0) g.cells ((r.y + row) * g.width + r.x) r.width (row_within row h)
-      ∙ range_same (pos 0) (λ j. slice_index_or g.cells ((r.y + row) * g.width + r.x + j) (pos 0)) (λ j. number_in (cell_at g) (place_in r (row * r.width + j))) r.width (λ j k. number_at row j h k)
+      ∙ range_same (pos 0) (λ j. slice_index_or g.cells ((r.y + row) * g.width + r.x + j) (pos 0)) (λ j. number_at_place (cell_at g) (place_in r (row * r.width + j))) r.width (λ j k. number_at row j h k)
 
   -- the numbers of the first rows, and those of one more
   abbrev pub first_rows : ℕ → List ℤ
-  first_rows row = map (λ i. number_in (cell_at g) (place_in r i)) (range_with_len 0 (row * r.width))
+  first_rows row = map (λ i. number_at_place (cell_at g) (place_in r i)) (range_with_len 0 (row * r.width))
 
   rows_more : (row : ℕ) → row < r.height → first_rows row ++ slice_range g.cells ((r.y + row) * g.width + r.x) ((r.y + row) * g.width + r.x + r.width) ≡ first_rows (row + 1)
   rows_more row h =
       let one : 1 * r.width ≡ r.width = omega arith in
       let more : (row + 1) * r.width ≡ row * r.width + r.width = add-mul row 1 r.width ∙ ap (λ n. row * r.width + n) one in
       ap (λ l. first_rows row ++ l) (row_numbers row h)
-      ∙ sym (range_parts (λ i. number_in (cell_at g) (place_in r i)) (row * r.width) r.width)
-      ∙ ap (λ n. map (λ i. number_in (cell_at g) (place_in r i)) (range_with_len 0 n)) (sym more)
+      ∙ sym (range_parts (λ i. number_at_place (cell_at g) (place_in r i)) (row * r.width) r.width)
+      ∙ ap (λ n. map (λ i. number_at_place (cell_at g) (place_in r i)) (range_with_len 0 n)) (sym more)
 
   pub pushed : (stride row : ℕ) (cells before now new : List ℤ) → stride ≡ g.width → cells ≡ g.cells → row < r.height
       → now ≡ before ++ first_rows row

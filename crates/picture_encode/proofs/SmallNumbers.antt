@@ -8,7 +8,7 @@ use Rattle.std.proofs.Math.ListN.{get_or-eq_default}
 use Rattle.vc_geometry.proofs.CoefficientPlaces.{place-inside}
 use Rattle.std.proofs.lemmas.List.Elements.{All-get_or}
 use Rattle.std.proofs.lemmas.List.FromFn.{length-map-range_with_len}
-use Rattle.link_model.specs.SendingPictures.{number_in, numbers_in_slice, sent_coefficients, sent_cells}
+use Rattle.link_model.specs.SendingPictures.{number_at_place, numbers_in_slice, sent_coefficients, sent_cells}
 use Rattle.picture_encode.specs.Grids.{IsGrid, AreGrids, cells_of, HasCoefficients, HaveCoefficients, slice_in_grids}
 use Rattle.picture_encode.specs.declared.grids.ComponentGrid.{ComponentGrid}
 use Rattle.picture_encode.specs.declared.grids.ComponentGrid.TheVariants.{Narrow, Wide}
@@ -66,11 +66,11 @@ grid_small p c (Wide g) h x y = small_cell g x y h.small
 module _ (p : Parameters) (slice : ℕ) (c : Component) (g : ComponentGrid) where
   count_is : length (numbers_in_slice p c (cells_of p c g) slice) ≡ slice_coefficient_count p c slice
   unfolding numbers_in_slice
-  count_is = length-map-range_with_len (λ i. number_in (cells_of p c g) (coefficient_place p c slice i)) 0 (slice_coefficient_count p c slice)
+  count_is = length-map-range_with_len (λ i. number_at_place (cells_of p c g) (coefficient_place p c slice i)) 0 (slice_coefficient_count p c slice)
 
   small_are : IsGrid p c g → list_any is_large (numbers_in_slice p c (cells_of p c g) slice) ≡ false
   unfolding numbers_in_slice
-  small_are h = none_large (λ i. number_in (cells_of p c g) (coefficient_place p c slice i)) 0 (slice_coefficient_count p c slice) (λ i. grid_small p c g h (coefficient_place p c slice i).0 (coefficient_place p c slice i).1)
+  small_are h = none_large (λ i. number_at_place (cells_of p c g) (coefficient_place p c slice i)) 0 (slice_coefficient_count p c slice) (λ i. grid_small p c g h (coefficient_place p c slice i).0 (coefficient_place p c slice i).1)
 
 pub are_coefficients : (p : Parameters) (slice : ℕ) (g : PictureGrids) → AreGrids p g → AreSliceCoefficients p slice (slice_in_grids p g slice)
 are_coefficients p slice g h = record {
@@ -84,7 +84,7 @@ module _ (p : Parameters) (c : Component) (some_across : 0 < p.slices_x) where
   numbers_are : (planes : Planes) (g : ComponentGrid) (slice : ℕ) → slice < slice_count p → HasCoefficients p c planes g → numbers_in_slice p c (cells_of p c g) slice ≡ numbers_in_slice p c (sent_cells p planes c) slice
   unfolding numbers_in_slice
   numbers_are planes g slice h has =
-      range_same (pos 0) (λ i. number_in (cells_of p c g) (coefficient_place p c slice i)) (λ i. number_in (sent_cells p planes c) (coefficient_place p c slice i)) (slice_coefficient_count p c slice)
+      range_same (pos 0) (λ i. number_at_place (cells_of p c g) (coefficient_place p c slice i)) (λ i. number_at_place (sent_cells p planes c) (coefficient_place p c slice i)) (slice_coefficient_count p c slice)
       (λ i below. let within = place-inside p c some_across slice i h below in has.cells (coefficient_place p c slice i).0 (coefficient_place p c slice i).1 within.0 within.1)
 
 pub coefficients_are : (p : Parameters) (planes : Planes) (g : PictureGrids) (slice : ℕ) → 0 < p.slices_x → slice < slice_count p → HaveCoefficients p planes g → slice_in_grids p g slice ≡ sent_coefficients p planes slice

@@ -2,7 +2,7 @@
 use Rattle.std.proofs.Common.{◌≡◌, ℕ, ◌+◌, List, ◌++◌, length, take, drop, ℤ, sym, ap, ◌∙◌, append_assoc}
 use Rattle.std.proofs.Math.Seq.{take-append_seam, take-length, drop-append_seam, drop-append-add}
 use Rattle.std.proofs.lemmas.List.FromFn.{length-map-range_with_len}
-use Rattle.link_model.specs.SendingPictures.{number_in, numbers_in_slice}
+use Rattle.link_model.specs.SendingPictures.{number_at_place, numbers_in_slice}
 use Rattle.vc_types.specs.declared.video.Component.{Component}
 use Rattle.vc_types.specs.Subbands.{coefficient_place, padded_width, slice_coefficient_count}
 use Rattle.vc_types.specs.TransformParameters.{Parameters}
@@ -12,7 +12,7 @@ use Rattle.picture_encode.specs.Grids.{narrow_numbers}
 
 pub length-narrow : (p : Parameters) (c : Component) (cells : List ℤ) (slice : ℕ) → length (narrow_numbers p c cells slice) ≡ slice_coefficient_count p c slice
 unfolding numbers_in_slice
-length-narrow p c cells slice = length-map-range_with_len (λ i. number_in (nested_in p c (padded_width p c) cells) (coefficient_place p c slice i)) 0 (slice_coefficient_count p c slice)
+length-narrow p c cells slice = length-map-range_with_len (λ i. number_at_place (nested_in p c (padded_width p c) cells) (coefficient_place p c slice i)) 0 (slice_coefficient_count p c slice)
 
 module _ (of_y of_c : ℕ) (y c1 c2 : List ℤ) (long_y : length y ≡ of_y) (long_c1 : length c1 ≡ of_c) (long_c2 : length c2 ≡ of_c) where
   first : take of_y (y ++ (c1 ++ c2)) ≡ y

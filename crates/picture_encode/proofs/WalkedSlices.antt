@@ -1,7 +1,7 @@
 -- The numbers of a slice, rectangle after rectangle.
 use Rattle.std.proofs.Common.{◌≡◌, ℕ, ℤ, pos, ◌+◌, ◌<◌, List, [], ◌++◌, map, sym, ap, ◌∙◌}
 use Rattle.std.specs.List.{range_with_len}
-use Rattle.link_model.specs.SendingPictures.{number_in, numbers_in_slice}
+use Rattle.link_model.specs.SendingPictures.{number_at_place, numbers_in_slice}
 use Rattle.picture_encode.specs.Grids.{rectangle_numbers}
 use Rattle.picture_encode.proofs.Gathered.{range_parts, range_same}
 use Rattle.vc_types.specs.declared.rect.Rect.{Rect}
@@ -15,7 +15,7 @@ use Rattle.vc_types.proofs.SliceRectangles.{coefficients_before, coefficients_be
 
 module _ (p : Parameters) (c : Component) (slice : ℕ) where
   abbrev number : Cells → ℕ → ℤ
-  number cells i = number_in cells (coefficient_place p c slice i)
+  number cells i = number_at_place cells (coefficient_place p c slice i)
 
   -- the numbers in the rectangles before number b
   abbrev pub numbers_before : Cells → ℕ → List ℤ
@@ -28,7 +28,7 @@ module _ (p : Parameters) (c : Component) (slice : ℕ) where
   more_before cells b r inside same =
       let n = coefficients_before p c slice b in
       ap (λ (t : Rect). numbers_before cells b ++ rectangle_numbers cells t) same
-      ∙ ap (λ l. numbers_before cells b ++ l) (range_same (pos 0) (λ j. number_in cells (place_in (rectangle p c slice b) j)) (λ j. number cells (n + j)) (area (rectangle p c slice b)) (λ j h. ap (λ place. number_in cells place) (sym (walked p c slice b inside j h))))
+      ∙ ap (λ l. numbers_before cells b ++ l) (range_same (pos 0) (λ j. number_at_place cells (place_in (rectangle p c slice b) j)) (λ j. number cells (n + j)) (area (rectangle p c slice b)) (λ j h. ap (λ place. number_at_place cells place) (sym (walked p c slice b inside j h))))
       ∙ sym (range_parts (number cells) n (area (rectangle p c slice b)))
       ∙ ap (λ m. map (number cells) (range_with_len 0 m)) (sym (coefficients_before-more p c slice b inside))
 

@@ -16,8 +16,8 @@ use Rattle.vc_types.specs.Subbands.{slice_count}
 abbrev pub indices_of : List EncodedSlice → List ℕ
 indices_of slices = map (λ e. e.index) slices
 
-abbrev pub slice_bytes : List EncodedSlice → List (List ℕ)
-slice_bytes slices = map (λ e. e.bytes.items) slices
+abbrev pub bytes_of_slices : List EncodedSlice → List (List ℕ)
+bytes_of_slices slices = map (λ e. e.bytes.items) slices
 
 -- ---- one slice
 
@@ -103,8 +103,8 @@ pub record AreFirstSlices (choice : Chooses) (wanted : Bool) (s : Sending) (plan
     (count : ℕ) (slices : List EncodedSlice) : Type 0 where
   pub answers : AreFirstAnswers choice wanted s planes count (indices_of slices)
   pub fit : first_of_slices s planes (enumerate_from 0 (indices_of slices)) ≡ None
-  pub sized : All (IsSized s) (slice_bytes slices)
-  pub bytes_are : slice_bytes slices
+  pub sized : All (IsSized s) (bytes_of_slices slices)
+  pub bytes_are : bytes_of_slices slices
       ≡ map (λ z. sent_slice (sent_parameters s) planes z.0 z.1)
       (enumerate_from 0 (indices_of slices))
 

@@ -1,7 +1,7 @@
 -- The coefficients of a picture, in a grid for each component.
 use Rattle.std.specs.Prelude.{◌≡◌, ◌*◌, ◌<◌, ◌^◌, ℕ, ℤ, All, unsigned_abs, List, length, map}
 use Rattle.std.specs.List.{range_with_len}
-use Rattle.link_model.specs.SendingPictures.{number_in, numbers_in_slice, sent_cells}
+use Rattle.link_model.specs.SendingPictures.{number_at_place, numbers_in_slice, sent_cells}
 use Rattle.picture_encode.specs.declared.grids.ComponentGrid.{ComponentGrid}
 use Rattle.picture_encode.specs.declared.grids.ComponentGrid.TheVariants.{Narrow, Wide}
 use Rattle.picture_encode.specs.declared.grids.PictureGrids.{PictureGrids}
@@ -70,4 +70,4 @@ slice_in_grids p g slice = record {
 
 -- the numbers of a rectangle, row by row
 abbrev pub rectangle_numbers : Cells → Rect → List ℤ
-rectangle_numbers cells r = map (λ i. number_in cells (place_in r i)) (range_with_len 0 (area r))
+rectangle_numbers cells r = map (λ i. number_at_place cells (place_in r i)) (range_with_len 0 (area r))

@@ -1,6 +1,6 @@
 ghost use Rattle.std.specs.Prelude.{◌≡◌, ◌+◌, ◌≤◌, ◌<◌, ◌↔◌, ◌≢◌, length, IfOk, IfSome};
 ghost use Rattle.std.specs.Prelude.{IsNone, IsSome, IsTrue, IsFalse, MatchOption};
-ghost use Rattle.vc_types.specs.Fields.{Answers};
+ghost use Rattle.vc_types.specs.Fields.{IsReadAs};
 ghost use Rattle.link_model.specs.Packets.{version, has_padding, has_extension, csrc_count, marker};
 ghost use Rattle.link_model.specs.Packets.{payload_type, header_end, padding_count, payload_end};
 ghost use Rattle.link_model.specs.Packets.{is_shaped, packet_fields, rtp_packet};
@@ -100,7 +100,7 @@ fn payload_end(bytes: &[u8], from: usize) -> Option<usize>
 /// its CSRC list and extension, and the padding.
 #[tactic(auto, unfolding(link_model::specs::Packets::rtp_packet, link_model::specs::Packets::packet_fields, link_model::specs::Packets::is_shaped))]
 pub fn read_rtp(bytes: &[u8]) -> Result<RtpView, RtpRefusal>
-    ensures value { Answers packet_of result (rtp_packet bytes.now) }
+    ensures value { IsReadAs packet_of result (rtp_packet bytes.now) }
     ensures places { IfOk result (λ v. (v.from ≤ v.to) × (v.to ≤ length bytes.now)) }
 
     ensures short_exactly { (result ≡ Err RtpRefusal.Short) ↔ (length bytes.now < 12) }

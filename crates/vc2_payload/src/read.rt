@@ -1,7 +1,7 @@
 ghost use Rattle.std.specs.Prelude.{◌≡◌, ◌+◌, ◌-◌, ◌≤◌, ◌<◌, ◌↔◌, ◌≢◌, ◌&&◌, length, take, drop, IfOk};
 ghost use Rattle.std.specs.Prelude.{IfSome, IsNone, IsSome, IsTrue, IsFalse, nat_le};
 ghost use Rattle.byteorder.specs.Endian.{big_number};
-ghost use Rattle.vc_types.specs.Fields.{Answers};
+ghost use Rattle.vc_types.specs.Fields.{IsReadAs};
 ghost use Rattle.vc_types.specs.ParseCodes.{fragment_code};
 ghost use Rattle.link_model.specs.Packets.{payload_code, fragment_fits, fragment_value};
 ghost use Rattle.link_model.specs.Packets.{fragment_head, is_known_code, payload};
@@ -81,7 +81,7 @@ fn fragment(bytes: &[u8]) -> Option<Payload<'_>>
 /// the contents of codes 20 and 30.
 #[tactic(auto, unfolding(link_model::specs::Packets::payload))]
 pub fn read_payload(bytes: &[u8]) -> Result<Payload<'_>, PayloadRefusal>
-    ensures value { Answers payload_value result (payload bytes.now) }
+    ensures value { IsReadAs payload_value result (payload bytes.now) }
     ensures place { IfOk result (HasBodyIn bytes.now) }
     ensures writable { IfOk result CanBeWritten }
 

@@ -8,7 +8,7 @@ use mathlib.Core.Path.{fun_ext}
 use Rattle.std.proofs.lemmas.Int.{ints}
 use Rattle.std.proofs.lemmas.Bool.{cases_lt, false≢true}
 use Rattle.std.proofs.lemmas.Bool.Decides.{nat_tests}
-use Rattle.vc_types.specs.Lifting.{Parity, even, odd, offset_of, LiftingStep, held, met, weighted, change}
+use Rattle.vc_types.specs.Lifting.{Parity, even, odd, offset_of, LiftingStep, clamped, met, weighted, change}
 use Rattle.vc_types.specs.Lifting.{lifted}
 use Rattle.vc_types.specs.Wavelets.{synthesis_steps, analysis_steps, lifted_by, synthesised, analysed}
 use Rattle.vc_lift.specs.CountedSteps.{sum_below}
@@ -24,11 +24,11 @@ counted_steps wavelet = map counted_step (synthesis_steps wavelet)
 
 -- ---- one step
 
-held_at : (low high place : ℕ) (z : ℤ) → z ≡ pos place → held low high z ≡ max low (min place high)
-held_at low high place z e = ap (held low high) e
+clamped_at : (low high place : ℕ) (z : ℤ) → z ≡ pos place → clamped low high z ≡ max low (min place high)
+clamped_at low high place z e = ap (clamped low high) e
 
-held_below : (low high n : ℕ) (z : ℤ) → z ≡ negsuc n → held low high z ≡ low
-held_below low high n z e = ap (held low high) e
+clamped_below : (low high n : ℕ) (z : ℤ) → z ≡ negsuc n → clamped low high z ≡ low
+clamped_below low high n z e = ap (clamped low high) e
 
 back_even : (first : ℤ) → is_behind even first ≡ true → first ≡ pos 1 -ℤ pos (back_of even first)
 back_even first h = grind (arith, false≢true)
@@ -38,17 +38,17 @@ back_odd first h = grind (arith, false≢true)
 
 module _ (half n j back : ℕ) (some : 0 < half) where
   even_place : (z : ℤ) → z ≡ pos 2 *ℤ (pos n +ℤ ((pos 1 -ℤ pos back) +ℤ pos j)) -ℤ pos 1
-      → (n + j < back) ⊎ (back ≤ n + j) → held 1 (2 * half - 1) z ≡ 2 * min (n + j - back) (half - 1) + 1
-  even_place z e (inl before) = held_below 1 (2 * half - 1) (2 * (back - (n + j)) - 2) z (omega (arith, ints))
+      → (n + j < back) ⊎ (back ≤ n + j) → clamped 1 (2 * half - 1) z ≡ 2 * min (n + j - back) (half - 1) + 1
+  even_place z e (inl before) = clamped_below 1 (2 * half - 1) (2 * (back - (n + j)) - 2) z (omega (arith, ints))
       ∙ omega arith
-  even_place z e (inr from) = held_at 1 (2 * half - 1) (2 * (n + j - back) + 1) z (omega (arith, ints))
+  even_place z e (inr from) = clamped_at 1 (2 * half - 1) (2 * (n + j - back) + 1) z (omega (arith, ints))
       ∙ omega arith
 
   odd_place : (z : ℤ) → z ≡ pos 2 *ℤ (pos n +ℤ ((pos 0 -ℤ pos back) +ℤ pos j))
-      → (n + j < back) ⊎ (back ≤ n + j) → held 0 (2 * half - 2) z ≡ 2 * min (n + j - back) (half - 1) + 0
-  odd_place z e (inl before) = held_below 0 (2 * half - 2) (2 * (back - (n + j)) - 1) z (omega (arith, ints))
+      → (n + j < back) ⊎ (back ≤ n + j) → clamped 0 (2 * half - 2) z ≡ 2 * min (n + j - back) (half - 1) + 0
+  odd_place z e (inl before) = clamped_below 0 (2 * half - 2) (2 * (back - (n + j)) - 1) z (omega (arith, ints))
       ∙ omega arith
-  odd_place z e (inr from) = held_at 0 (2 * half - 2) (2 * (n + j - back)) z (omega (arith, ints))
+  odd_place z e (inr from) = clamped_at 0 (2 * half - 2) (2 * (n + j - back)) z (omega (arith, ints))
       ∙ omega arith
 
 met_even : (first : ℤ) (half n j : ℕ) → is_behind even first ≡ true → 0 < half

@@ -1,5 +1,5 @@
 ghost use Rattle.std.specs.Prelude.{◌≤◌, ◌/◌, IfOk};
-ghost use Rattle.vc_types.specs.Fields.{Answers, Gives};
+ghost use Rattle.vc_types.specs.Fields.{IsReadAs, Gives};
 ghost use Rattle.vc_types.specs.SequenceHeader.{sequence_of};
 ghost use Rattle.vc_types.specs.TransformParameters.{number};
 ghost use Rattle.vc_lowdelay.specs.LowDelay.{coded_low_parameters, low_bytes, low_transform_parameters};
@@ -22,7 +22,7 @@ use vc_types::{Header, ParamsRefusal, Plan};
 /// a slice may have no byte, or the denominator is 0, or a slice has 65,536 bytes or more on an average. The
 /// size of the padded luma is tested last.
 pub fn read_low_params(h: &Header, bytes: &[u8]) -> Result<(LowPlan, usize), ParamsRefusal>
-    ensures exact { Answers (λ x. (low_parameters_of x.0, x.1)) result
+    ensures exact { IsReadAs (λ x. (low_parameters_of x.0, x.1)) result
         (coded_low_parameters (sequence_of h.now) bytes.now) }
 {
     let mut r = BitReader::new(bytes);

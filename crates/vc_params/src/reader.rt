@@ -1,6 +1,6 @@
 ghost use Rattle.std.specs.Prelude.{◌≡◌, ◌++◌, ℕ, Bool, List, length, Ok, IfOk};
 ghost use Rattle.vc_types.specs.Bits.{bits_of};
-ghost use Rattle.vc_types.specs.Fields.{Gives, Answers, bytes_for};
+ghost use Rattle.vc_types.specs.Fields.{Gives, IsReadAs, bytes_for};
 ghost use Rattle.vc_types.specs.ParameterSpelling.{ParameterSpelling, parameter_bits, spelled_parameters};
 ghost use Rattle.vc_types.specs.ParameterSpelling.{AreParameters, BeginsWithParameters};
 ghost use Rattle.vc_types.specs.SequenceHeader.{sequence_of};
@@ -24,20 +24,20 @@ pub fn read_params(h: &Header, bytes: &[u8]) -> Result<(Plan, usize), ParamsRefu
     // What is spelled so is read, whatever follows.
     ensures only { (s : ParameterSpelling) (rest : List Bool) → AreParameters (sequence_of h.now) s
         → bits_of bytes.now ≡ parameter_bits h.now.major s ++ rest
-        → Answers {Y = Parameters × ℕ} (λ x. (parameters_of x.0, x.1)) result
+        → IsReadAs {Y = Parameters × ℕ} (λ x. (parameters_of x.0, x.1)) result
         (Ok (
           spelled_parameters (sequence_of h.now) s,
           bytes_for (length (parameter_bits h.now.major s)),
         )) }
     // Which plan it is, or which refusal.
-    ensures exact { Answers (λ x. (parameters_of x.0, x.1)) result
+    ensures exact { IsReadAs (λ x. (parameters_of x.0, x.1)) result
         (coded_parameters (sequence_of h.now) bytes.now) }
 {
     front(h, bytes)
 }
 
 fn front(h: &Header, bytes: &[u8]) -> Result<(Plan, usize), ParamsRefusal>
-    ensures { Answers (λ x. (parameters_of x.0, x.1)) result
+    ensures { IsReadAs (λ x. (parameters_of x.0, x.1)) result
         (coded_parameters (sequence_of h.now) bytes.now) }
 {
     let mut r = BitReader::new(bytes);

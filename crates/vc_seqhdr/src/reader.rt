@@ -1,6 +1,6 @@
 ghost use Rattle.std.specs.Prelude.{◌≡◌, ◌++◌, ℕ, Bool, List, length, Ok, IfOk};
 ghost use Rattle.vc_types.specs.Bits.{bits_of};
-ghost use Rattle.vc_types.specs.Fields.{Gives, Answers, bytes_for};
+ghost use Rattle.vc_types.specs.Fields.{Gives, IsReadAs, bytes_for};
 ghost use Rattle.vc_types.specs.HeaderSpelling.{HeaderSpelling, header_bits_of, header_bits, spelled_header};
 ghost use Rattle.vc_types.specs.HeaderSpelling.{IsHeaderOf, IsHeader, BeginsWithHeaderOf, BeginsWithHeader};
 ghost use Rattle.vc_types.specs.SequenceHeader.{Sequence, sequence_of, sequence_header_of};
@@ -22,10 +22,10 @@ pub fn read_header(bytes: &[u8]) -> Result<(Header, usize), HeaderRefusal>
     // What is spelled so is read, whatever follows.
     ensures only { (s : HeaderSpelling) (rest : List Bool) → IsHeader s
         → bits_of bytes.now ≡ header_bits s ++ rest
-        → Answers {Y = Sequence × ℕ} (λ x. (sequence_of x.0, x.1)) result
+        → IsReadAs {Y = Sequence × ℕ} (λ x. (sequence_of x.0, x.1)) result
         (Ok (spelled_header s, bytes_for (length (header_bits s)))) }
     // Which header it is, or which refusal.
-    ensures exact { Answers (λ x. (sequence_of x.0, x.1)) result (coded_header bytes.now) }
+    ensures exact { IsReadAs (λ x. (sequence_of x.0, x.1)) result (coded_header bytes.now) }
 {
     read_header_of(HIGH_QUALITY_PROFILE, bytes)
 }
@@ -42,17 +42,17 @@ pub fn read_header_of(profile: u8, bytes: &[u8]) -> Result<(Header, usize), Head
     // What is spelled so is read, whatever follows.
     ensures only { (s : HeaderSpelling) (rest : List Bool) → IsHeaderOf profile s
         → bits_of bytes.now ≡ header_bits_of profile s ++ rest
-        → Answers {Y = Sequence × ℕ} (λ x. (sequence_of x.0, x.1)) result
+        → IsReadAs {Y = Sequence × ℕ} (λ x. (sequence_of x.0, x.1)) result
         (Ok (spelled_header s, bytes_for (length (header_bits_of profile s)))) }
     // Which header it is, or which refusal.
-    ensures exact { Answers (λ x. (sequence_of x.0, x.1)) result
+    ensures exact { IsReadAs (λ x. (sequence_of x.0, x.1)) result
         (coded_header_of profile bytes.now) }
 {
     front(profile, bytes)
 }
 
 fn front(wanted: u8, bytes: &[u8]) -> Result<(Header, usize), HeaderRefusal>
-    ensures { Answers (λ x. (sequence_of x.0, x.1)) result (coded_header_of wanted bytes.now) }
+    ensures { IsReadAs (λ x. (sequence_of x.0, x.1)) result (coded_header_of wanted bytes.now) }
 {
     let mut r = BitReader::new(bytes);
     let header = header(wanted, &mut r)?;

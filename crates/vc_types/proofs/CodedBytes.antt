@@ -2,7 +2,7 @@
 use Rattle.std.proofs.Common.{◌≡◌, ℕ, ◌+◌, ◌*◌, ◌<◌, Bool, List, ◌++◌, length, Result, Ok, Err, sym, ap, subst, ◌∙◌, append_assoc, length-append, arith}
 use Rattle.std.specs.Prelude.{IfOk}
 use Rattle.vc_types.specs.Bits.{bits_of}
-use Rattle.vc_types.specs.Fields.{Field, Answers, Begins, bytes_for, IsCodec}
+use Rattle.vc_types.specs.Fields.{Field, IsReadAs, Begins, bytes_for, IsCodec}
 use Rattle.vc_types.specs.SequenceHeader.{bytes_used, with_bytes_used}
 use Rattle.vc_types.proofs.Bits.{bits_of-append, length-bits_of}
 use Rattle.vc_types.proofs.FieldCodecs.{ok_is}
@@ -20,7 +20,7 @@ read_ok bytes (Err refusal) x h = absurd cc
 
 -- What is read at the front of bytes is spelled so.
 pub found : {E A X Y : Type 0} {field : Field Bool E X} {bits : A → List Bool} {value : A → X} {IsRead : A → Type 0} (bytes : List ℕ) (view : Y → X × ℕ) (result : Result Y E)
-    → IsCodec field bits value IsRead → Answers view result (with_bytes_used bytes (field (bits_of bytes))) → IfOk result (λ y. Begins bits value IsRead bytes (view y).0 (view y).1)
+    → IsCodec field bits value IsRead → IsReadAs view result (with_bytes_used bytes (field (bits_of bytes))) → IfOk result (λ y. Begins bits value IsRead bytes (view y).0 (view y).1)
 found {field = field} {bits = bits} bytes view (Ok y) c h =
     let read = read_ok bytes (field (bits_of bytes)) (view y) h in
     let a = c.takes (bits_of bytes) (view y).0 read.0 read.1 in
@@ -36,12 +36,12 @@ found bytes view (Err refusal) c h = tt
 
 -- What is spelled at the front of bytes is read.
 pub only : {E A X Y : Type 0} {field : Field Bool E X} {bits : A → List Bool} {value : A → X} {IsRead : A → Type 0} (bytes : List ℕ) (view : Y → X × ℕ) (result : Result Y E)
-    → IsCodec field bits value IsRead → Answers view result (with_bytes_used bytes (field (bits_of bytes))) → (a : A) (rest : List Bool) → IsRead a → bits_of bytes ≡ bits a ++ rest → Answers view result (Ok (value a, bytes_for (length (bits a))))
+    → IsCodec field bits value IsRead → IsReadAs view result (with_bytes_used bytes (field (bits_of bytes))) → (a : A) (rest : List Bool) → IsRead a → bits_of bytes ≡ bits a ++ rest → IsReadAs view result (Ok (value a, bytes_for (length (bits a))))
 only {E = E} {X = X} {field = field} {bits = bits} {value = value} bytes view result c h a rest ok begins =
     let read : field (bits_of bytes) ≡ Ok (value a, rest) = ap field begins ∙ c.again a rest ok in
     let whole : with_bytes_used bytes (field (bits_of bytes)) ≡ Ok (value a, bytes_for (length (bits a))) =
     ap (with_bytes_used bytes) read ∙ ap (λ (n : ℕ). Ok (value a, n)) (used_is bytes (bits a) rest begins) in
-    subst (λ (r : Result (X × ℕ) E). Answers view result r) whole h
+    subst (λ (r : Result (X × ℕ) E). IsReadAs view result r) whole h
 
 -- What is written, filled up to the edge of a byte, is read again, whatever follows.
 pub read_again : {E A X : Type 0} {field : Field Bool E X} {bits : A → List Bool} {value : A → X} {IsRead : A → Type 0} (bytes behind : List ℕ) (a : A) (fill : List Bool)

@@ -72,9 +72,9 @@ Gives view (Ok x) left read = read ≡ Ok (view x, left)
 Gives view (Err refusal) left read = read ≡ Err refusal
 
 -- What was answered, seen by view, is what was read.
-abbrev pub Answers : {E X Y : Type 0} → (X → Y) → Result X E → Result Y E → Type 0
-Answers view (Ok x) read = read ≡ Ok (view x)
-Answers view (Err refusal) read = read ≡ Err refusal
+abbrev pub IsReadAs : {E X Y : Type 0} → (X → Y) → Result X E → Result Y E → Type 0
+IsReadAs view (Ok x) read = read ≡ Ok (view x)
+IsReadAs view (Err refusal) read = read ≡ Err refusal
 
 -- ---- what fields are written as
 

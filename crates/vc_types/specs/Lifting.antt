@@ -33,15 +33,15 @@ pub record LiftingStep : Type 0 where
   pub first : ℤ
 
 -- the place nearest to z, from low to high
-abbrev pub held : ℕ → ℕ → ℤ → ℕ
-held low high (pos place) = max low (min place high)
-held low high (negsuc place) = low
+abbrev pub clamped : ℕ → ℕ → ℤ → ℕ
+clamped low high (pos place) = max low (min place high)
+clamped low high (negsuc place) = low
 
 -- the place of the sample that the tap of number i meets: an odd one in a step on the even samples,
 -- an even one in a step on the odd samples
 abbrev pub met : Parity → ℕ → ℕ → ℤ → ℕ
-met even length n i = held 1 (length - 1) (pos 2 *ℤ (pos n +ℤ i) -ℤ pos 1)
-met odd length n i = held 0 (length - 2) (pos 2 *ℤ (pos n +ℤ i))
+met even length n i = clamped 1 (length - 1) (pos 2 *ℤ (pos n +ℤ i) -ℤ pos 1)
+met odd length n i = clamped 0 (length - 2) (pos 2 *ℤ (pos n +ℤ i))
 
 -- the sum of taps, the first of which has number i, each times the sample that it meets
 unfoldable pub weighted : Parity → ℕ → Line → ℕ → List ℤ → ℤ → ℤ

@@ -47,15 +47,15 @@ data_unit = do
   give (record { code = code_of info; body = body })
 
 -- a unit before other units
-abbrev pub before : DataUnit → List DataUnit × List ℕ → List DataUnit × List ℕ
-before u behind = (u ∷ behind.0, behind.1)
+abbrev pub with_unit_first : DataUnit → List DataUnit × List ℕ → List DataUnit × List ℕ
+with_unit_first u behind = (u ∷ behind.0, behind.1)
 
 -- the first unit, and those behind it unless it ends the sequence; none where it is refused
 abbrev pub units_from : List ℕ → (List ℕ → List DataUnit × List ℕ)
     → Result (DataUnit × List ℕ) UnitFault → List DataUnit × List ℕ
 units_from bytes behind (Err refusal) = ([], bytes)
 units_from bytes behind (Ok read) =
-    if is_end_of_sequence read.0 then (read.0 ∷ [], read.1) else before read.0 (behind read.1)
+    if is_end_of_sequence read.0 then (read.0 ∷ [], read.1) else with_unit_first read.0 (behind read.1)
 
 -- the units that begin the bytes, at most so many, up to the first end of sequence and before the
 -- first that is refused; and the rest

@@ -1,5 +1,5 @@
 use Rattle.std.proofs.Common.{◌≡◌, ◌+◌, ◌*◌, ◌<◌, ◌≤◌, ℕ, length, arith, ap, sym, ◌∙◌}
-use Rattle.link_model.specs.SendingPictures.{number_in}
+use Rattle.link_model.specs.SendingPictures.{number_at_place}
 use Rattle.vc_types.specs.Subbands.{place_in, padded_width}
 use Rattle.vc_types.specs.TransformParameters.{parameters_of}
 use Rattle.vc_types.specs.Transforms.{lowest_height}
@@ -57,7 +57,7 @@ loop-b-preserved c =
       copied = rect_copied p c.args.c c.args.parts.now.slice cells c.loop-b.b c.loop-b.from _ r c.loop-b.coeffs c.copy_rect.new.coeffs (omega arith) c.rect-rect.ensures.value c.loop-b.invariant.from (omega arith)
           (λ j h.
           rect_numbers c.args.cells.now stride c.loop-b.from rows.result.first rows.result.step r (turned_row p c.args.c) c.copy_rect.new.coeffs (omega (arith, c.rect-rect.ensures.right, c.padded-width.ensures.width)) stands c.copy_rect.ensures.on j h
-          ∙ ap (λ wide. number_in (nested_in p c.args.c wide c.args.cells.now) (place_in r j)) c.padded-width.ensures.width) c.copy_rect.ensures.off c.loop-b.invariant.copied;
+          ∙ ap (λ wide. number_at_place (nested_in p c.args.c wide c.args.cells.now) (place_in r j)) c.padded-width.ensures.width) c.copy_rect.ensures.off c.loop-b.invariant.copied;
     }
 
 pub returns : goal.returns

@@ -2,7 +2,7 @@ use Rattle.std.proofs.Common.{◌+◌, ◌<◌, ◌≤◌, ◌^◌, List, [], �
 use Rattle.std.proofs.lemmas.List.{length-map, take_all}
 use Rattle.std.proofs.lemmas.List.Elements.{All-get_or, All-head}
 use Rattle.picture_encode.specs.declared.slices.EncodedSlice.{EncodedSlice}
-use Rattle.picture_encode.specs.Encoded.{slice_bytes}
+use Rattle.picture_encode.specs.Encoded.{bytes_of_slices}
 use Rattle.vc_types.specs.SenderSettings.{packing_view}
 use Rattle.link_sender.specs.Runs.{EndsRun, FitsRun, PacksSlices}
 use Rattle.link_sender.proofs.Numbered.{then_ok}
@@ -28,7 +28,7 @@ pack-requires-clause-fits c =
     let item = c.slice-item.result in
     let inside : i < length slices = omega arith in
     let long = length-map slices (λ (e : EncodedSlice). e.bytes.items) in
-    let own = subst (λ (l : List ℕ). FitsRun s l) (own_bytes slices i item inside c.slice-item.is) (All-get_or (FitsRun s) (slice_bytes slices) i item.bytes.items (omega (arith, inside, long)) c.requires.fit) in
+    let own = subst (λ (l : List ℕ). FitsRun s l) (own_bytes slices i item inside c.slice-item.is) (All-get_or (FitsRun s) (bytes_of_slices slices) i item.bytes.items (omega (arith, inside, long)) c.requires.fit) in
     subst (λ (l : List ℕ). FitsRun s l) (sym c.deref.ensures.value) own
 
 pub loop-slice-preserved : goal.loop-slice-preserved
@@ -38,16 +38,16 @@ loop-slice-preserved c =
     let i = c.loop-slice.slice-index in
     let item = c.slice-item.result in
     let inside : i < length slices = omega arith in
-    let next = next_slice slices i item inside c.slice-item.is ∙ ap (λ b. take i (slice_bytes slices) ++ b ∷ []) (sym c.deref.ensures.value) in
+    let next = next_slice slices i item inside c.slice-item.is ∙ ap (λ b. take i (bytes_of_slices slices) ++ b ∷ []) (sym c.deref.ensures.value) in
     record {
       run = subst (λ (n : ℕ). EndsRun (packing_view p.settings) n c.pack.new.run) (ap (λ n. n + 1) c.loop-slice.invariant.run.end) c.in_ok-pack.ensures.run;
-      packed = subst (λ (l : List (List ℕ)). PacksSlices p l c.args.self.now c.pack.new.self c.pack.new.run) (sym next) (c.in_ok-pack.ensures.packed (take i (slice_bytes slices)) c.args.self.now c.loop-slice.invariant.packed);
+      packed = subst (λ (l : List (List ℕ)). PacksSlices p l c.args.self.now c.pack.new.self c.pack.new.run) (sym next) (c.in_ok-pack.ensures.packed (take i (bytes_of_slices slices)) c.args.self.now c.loop-slice.invariant.packed);
     }
 
 pub returns : goal.returns
 returns c =
     let p = c.args.p.now in
-    let slices = slice_bytes c.args.slices.now in
+    let slices = bytes_of_slices c.args.slices.now in
     let long = length-map c.args.slices.now (λ (e : EncodedSlice). e.bytes.items) in
     let last : length c.args.slices.now ≤ c.loop-slice.slice-index = omega arith in
     let some = some_slices p.plan.now.slices_x p.plan.now.slices_y p.plan.now.slices in
