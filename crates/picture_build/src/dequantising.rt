@@ -26,13 +26,14 @@ pub fn put_dequantised(
     ensures all { OnOk result (PutsCoefficients bands.now c (numbered_in bands.now c numbers.now)
         cells.old cells.new) }
 {
+    let Some(narrow) = bands.narrow(greatest) else {
+        return Err(TooWide);
+    };
     let (width, _) = padded(&bands.parts.plan, c);
     let mut from = 0;
     for b in 0..band_count(&bands.parts.plan) {
         let rect = bands.parts.rect(c, b);
-        let Some(quantiser) = bands.quantiser(b).narrow(greatest) else {
-            return Err(TooWide);
-        };
+        let quantiser = narrow.lowered(bands.parts.matrix_entry(b));
         let to = CellRect {
             rect,
             stride: width as usize,

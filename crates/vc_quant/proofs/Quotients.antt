@@ -3,8 +3,9 @@ use Rattle.std.proofs.Common.{◌≡◌, ℕ, zero, suc, ◌+◌, ◌-◌, ◌*�
 use Rattle.std.specs.Prelude.{◌&&◌, ◌↔◌}
 use Rattle.std.proofs.lemmas.Bool.{and_parts, cases_lt, eqb-true, leb-true}
 use Rattle.std.proofs.Math.Nat.{mul-le-mul_right, mul-le-mul_left, div-mul-le_self, lt-div-mul-add, div-eq_of_lt-le, le_of_mul-le-mul_right, lt_of_mul-lt-mul_right, pow-le-pow_right, pow-suc, le-div_iff_mul-le}
-use Rattle.vc_types.specs.Quantisation.{quant_factor}
+use Rattle.vc_types.specs.Quantisation.{quant_factor, quant_offset}
 use Rattle.vc_types.proofs.Tables.{holds_below, holds_at}
+use Rattle.vc_quant.specs.Narrow.{IsNarrow}
 use Rattle.vc_quant.specs.Reciprocal.{IsReciprocal}
 use Rattle.vc_quant.specs.declared.factors.TheConstants.{FACTORS}
 use Rattle.vc_quant.specs.declared.last.TheConstants.{LASTS, RECIPROCALS}
@@ -77,18 +78,23 @@ factor_reciprocal_at q small =
 
 -- ---- factors rise with the index
 
-rises_by : (n q : ℕ) → q + n ≤ 127 → quant_factor q ≤ quant_factor (q + n)
-rises_by zero q within = let same : q + 0 ≡ q = omega arith in rw same (omega arith)
-rises_by (suc n) q within =
-    let next : q + n + 1 ≡ q + suc n = omega arith in
-    let step = leb-true _ _ (holds_at (λ q. leb (quant_factor q) (quant_factor (q + 1))) 127 (q + n) all_rise (omega arith)) in
-    let last : quant_factor (q + n) ≤ quant_factor (q + suc n) = subst (λ (k : ℕ). quant_factor (q + n) ≤ quant_factor k) next step in
-    omega (arith, rises_by n q (omega arith), last)
+-- where each place of a table is at most the next one
+module _ (table : ℕ → ℕ) (all : holds_below (λ q. leb (table q) (table (q + 1))) 127 ≡ true) where
+  rises_by : (n q : ℕ) → q + n ≤ 127 → table q ≤ table (q + n)
+  rises_by zero q within = let same : q + 0 ≡ q = omega arith in rw same (omega arith)
+  rises_by (suc n) q within =
+      let next : q + n + 1 ≡ q + suc n = omega arith in
+      let step = leb-true _ _ (holds_at (λ q. leb (table q) (table (q + 1))) 127 (q + n) all (omega arith)) in
+      let last : table (q + n) ≤ table (q + suc n) = subst (λ (k : ℕ). table (q + n) ≤ table k) next step in
+      omega (arith, rises_by n q (omega arith), last)
+
+  table_rises : (q r : ℕ) → q ≤ r → r ≤ 127 → table q ≤ table r
+  table_rises q r le within =
+      let same : q + (r - q) ≡ r = omega arith in
+      subst (λ (k : ℕ). table q ≤ table k) same (rises_by (r - q) q (omega arith))
 
 pub rises : (q r : ℕ) → q ≤ r → r ≤ 127 → quant_factor q ≤ quant_factor r
-rises q r le within =
-    let same : q + (r - q) ≡ r = omega arith in
-    subst (λ (k : ℕ). quant_factor q ≤ quant_factor k) same (rises_by (r - q) q (omega arith))
+rises = table_rises quant_factor all_rise
 
 least : quant_factor 0 ≡ 4
 unfolding quant_factor
@@ -222,3 +228,28 @@ few_digits digits magnitude h small =
 
 pub some_factor : (q : ℕ) → q ≤ 127 → 0 < quant_factor q
 some_factor q few = let first : quant_factor 0 ≡ 4 = power_at 0 (omega arith) in omega (arith, rises 0 q (omega arith) few, first)
+
+-- ---- offsets
+
+all_offsets_rise : holds_below (λ q. leb (quant_offset q) (quant_offset (q + 1))) 127 ≡ true
+unfolding quant_factor quant_offset
+all_offsets_rise = refl
+
+offset_rises : (q r : ℕ) → q ≤ r → r ≤ 127 → quant_offset q ≤ quant_offset r
+offset_rises = table_rises quant_offset all_offsets_rise
+
+second : quant_factor 1 ≡ 5
+unfolding quant_factor
+second = refl
+
+-- half of the factor, less 1 at the first two indexes
+pub offset_at : (q few : ℕ) → few ≤ 1 → (few ≡ 1) ↔ (q < 2) → (quant_factor q + 1) / 2 - few ≡ quant_offset q
+unfolding quant_offset
+offset_at q few most is = grind (arith, least, second)
+
+-- what is narrow at an index is narrow at those below it
+pub narrow_below : (magnitude q r : ℕ) → r ≤ q → q ≤ 127 → IsNarrow magnitude q → IsNarrow magnitude r
+narrow_below magnitude q r le within narrow =
+    let factors = rises r q le within in
+    let times = mul-le-mul_left magnitude factors in
+    (omega (arith, factors, narrow.0), omega (arith, times, offset_rises r q le within, narrow.1))

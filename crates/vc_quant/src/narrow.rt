@@ -1,7 +1,9 @@
-ghost use Rattle.std.specs.Prelude.{◌≡◌, ◌+◌, ◌*◌, ◌^◌, ◌<◌, ◌≤◌, unsigned_abs};
+ghost use Rattle.std.specs.Prelude.{◌≡◌, ◌+◌, ◌-◌, ◌*◌, ◌^◌, ◌<◌, ◌≤◌, unsigned_abs};
 ghost use Rattle.vc_types.specs.Quantisation.{quant_factor, quant_offset, dequantised, dequantised_magnitude};
 ghost use Rattle.vc_types.specs.Quantisation.{with_sign_of};
 ghost use Rattle.vc_quant.specs.Narrow.{IsNarrow};
+
+use crate::quantiser::{factor, offset};
 
 /// An index, with its factor and its offset, at which numbers up to a magnitude stand for coefficients that
 /// fit 32 bits.
@@ -11,6 +13,7 @@ pub struct NarrowQuantiser {
     pub greatest: u32,
     pub(crate) factor: u32,
     pub(crate) offset: u32,
+    ghost index_is_known: { index ≤ 127 },
     ghost factor_is: { factor ≡ quant_factor index },
     ghost offset_is: { offset ≡ quant_offset index },
     ghost is_narrow: { IsNarrow greatest index },
@@ -25,6 +28,21 @@ impl NarrowQuantiser {
         ensures narrow { unsigned_abs result < 2 ^ 29 }
     {
         coefficient(number, self.factor, self.offset)
+    }
+
+    /// The same at an index that is lower by so much, or at index 0 where there is none.
+    #[inline(always)]
+    pub fn lowered(&self, by: u8) -> NarrowQuantiser
+        ensures index { result.index ≡ self.now.index - by }
+        ensures greatest { result.greatest ≡ self.now.greatest }
+    {
+        let index = self.index.saturating_sub(by);
+        NarrowQuantiser {
+            index,
+            greatest: self.greatest,
+            factor: factor(index) as u32,
+            offset: offset(index) as u32,
+        }
     }
 }
 

@@ -13,6 +13,7 @@ use crate::quotient::quotient;
 use crate::reciprocal::factor_reciprocal;
 
 /// The quantisation factor of an index from 0 to 127, in quarters (ST 2042-1, quantisation factor).
+#[inline(always)]
 pub fn factor(q: u8) -> u64
     requires index { q ≤ 127 }
     ensures value { result ≡ quant_factor q }
@@ -22,17 +23,14 @@ pub fn factor(q: u8) -> u64
 }
 
 /// The quantisation offset of an index from 0 to 127, in quarters (ST 2042-1, quantisation offset).
-#[tactic(auto, unfolding(vc_types::specs::Quantisation::quant_offset))]
+#[inline(always)]
 pub fn offset(q: u8) -> u64
     requires index { q ≤ 127 }
     ensures value { result ≡ quant_offset q }
     ensures range { result < 2 ^ 34 }
 {
-    match q {
-        0 => 1,
-        1 => 2,
-        _ => (factor(q) + 1) / 2,
-    }
+    // Half of the factor, less 1 at the first two indexes.
+    (factor(q) + 1) / 2 - u64::from(q < 2)
 }
 
 /// An index from 0 to 127, with its factor and its offset.
@@ -42,6 +40,7 @@ pub struct Quantiser {
     factor: u64,
     offset: u64,
     reciprocal: u64,
+    ghost index_is_known: { index ≤ 127 },
     ghost factor_is: { factor ≡ quant_factor index },
     ghost offset_is: { offset ≡ quant_offset index },
     ghost factor_fits: { factor < 2 ^ 34 },

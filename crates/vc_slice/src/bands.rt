@@ -1,11 +1,11 @@
-ghost use Rattle.std.specs.Prelude.{◌≡◌, ◌+◌, ◌-◌, ◌^◌, ◌<◌, ◌≤◌, slice_index_or};
+ghost use Rattle.std.specs.Prelude.{◌≡◌, ◌+◌, ◌-◌, ◌^◌, ◌<◌, ◌≤◌, IfSome, slice_index_or};
 ghost use Rattle.vc_types.specs.declared.video.Component.TheVariants.{Y, C1, C2};
 ghost use Rattle.vc_types.specs.OfPlan.{band_count, padded_height, padded_width, slice_count};
 ghost use Rattle.vc_types.specs.Subbands.{area};
 ghost use Rattle.vc_geometry.specs.OfPlan.{AreSliceRectangles};
 
 use vc_geometry::{bands as band_count, slice_rects};
-use vc_quant::Quantiser;
+use vc_quant::{NarrowQuantiser, Quantiser};
 use vc_types::{Component, Plan, Rect};
 
 const NOWHERE: Rect = Rect {
@@ -68,6 +68,15 @@ impl SliceParts {
         }
     }
 
+    /// What the quantisation matrix has for subband number `b`.
+    #[inline(always)]
+    pub fn matrix_entry(&self, b: u32) -> u8
+        requires { b < band_count self.now.plan }
+        ensures { result ≡ slice_index_or self.now.plan.matrix b 0 }
+    {
+        self.plan.matrix[b as usize]
+    }
+
     /// How many coefficients a subband has there.
     #[inline(always)]
     pub fn area(&self, c: Component, b: u32) -> u32
@@ -108,10 +117,17 @@ impl<'a> SliceBands<'a> {
         ensures { result.index
             ≡ self.now.index - slice_index_or self.now.parts.now.plan.matrix b 0 }
     {
-        Quantiser::new(
-            self.index
-                .saturating_sub(self.parts.plan.matrix[b as usize]),
-        )
+        Quantiser::new(self.index.saturating_sub(self.parts.matrix_entry(b)))
+    }
+
+    /// The quantiser of the slice itself for numbers up to the greatest magnitude, if it is narrow: then
+    /// those of its subbands are, at lower indexes.
+    #[inline(always)]
+    pub fn narrow(&self, greatest: u32) -> Option<NarrowQuantiser>
+        ensures { IfSome result
+            (λ narrow. (narrow.index ≡ self.now.index) × (narrow.greatest ≡ greatest)) }
+    {
+        Quantiser::new(self.index).narrow(greatest)
     }
 }
 

@@ -15,6 +15,7 @@ pub struct QuantisedNumbers<'a> {
 }
 
 /// Puts the coefficients that numbers stand for, from one number on, into a rectangle of cells, row by row.
+#[inline(always)]
 pub fn dequantise_rect(
     cells: &mut [i32],
     to: &CellRect,
@@ -32,6 +33,7 @@ pub fn dequantise_rect(
 {
     // Rows of these widths go over at once.
     match to.rect.width {
+        0 => {}
         1 => put_rows(cells, to, quantised, from, 1),
         2 => put_rows(cells, to, quantised, from, 2),
         4 => put_rows(cells, to, quantised, from, 4),

@@ -31,14 +31,15 @@ pub(crate) fn strip_numbers(
     ensures all { OnOk result (PutsStrip run.now bands.now c (numbered_in bands.now c numbers.now)
         strip.old strip.new) }
 {
+    let Some(narrow) = bands.narrow(greatest) else {
+        return Err(TooWide);
+    };
     let mut from = 0;
     let mut base = 0;
     for b in 0..band_count(&run.plan) {
         let part = bands.parts.rect(c, b);
         let whole = run.rect(c, b);
-        let Some(quantiser) = bands.quantiser(b).narrow(greatest) else {
-            return Err(TooWide);
-        };
+        let quantiser = narrow.lowered(bands.parts.matrix_entry(b));
         let quantised = QuantisedNumbers {
             numbers,
             quantiser: &quantiser,

@@ -1,4 +1,4 @@
-use Rattle.std.proofs.Common.{arith, ◌<◌, ◌≤◌, ℕ, unsigned_abs, refl, sym, ◌∙◌, ◌+◌}
+use Rattle.std.proofs.Common.{arith, ◌≡◌, ◌<◌, ◌≤◌, ℕ, unsigned_abs, refl, sym, ◌∙◌, ◌+◌, ◌-◌, slice_index_or}
 use Rattle.vc_types.specs.Lifting.{line_of}
 use Rattle.vc_types.specs.Subbands.{area, place_in}
 use Rattle.vc_types.specs.TransformParameters.{parameters_of}
@@ -25,8 +25,8 @@ loop-b-init c = record {
 pub rect-part-requires : goal.rect-part-requires
 rect-part-requires c = record { number = omega (arith, same_bands c.args.run.now c.args.bands.now.parts.now c.requires.own c.args.c) }
 
-pub quantiser-requires : goal.quantiser-requires
-quantiser-requires c = omega (arith, same_bands c.args.run.now c.args.bands.now.parts.now c.requires.own c.args.c)
+pub matrix_entry-requires : goal.matrix_entry-requires
+matrix_entry-requires c = omega (arith, same_bands c.args.run.now c.args.bands.now.parts.now c.requires.own c.args.c)
 
 pub put_part-requires-clause-across : goal.put_part-requires-clause-across
 put_part-requires-clause-across c =
@@ -51,7 +51,7 @@ put_part-requires-clause-from c =
 pub put_part-requires-clause-small : goal.put_part-requires-clause-small
 put_part-requires-clause-small c = λ j h.
     let within = part_within c.args.run.now c.args.bands.now.parts.now c.requires.own c.args.c c.loop-b.b c.loop-b.from c.loop-b.base c.rect-part.result c.rect-whole.result (omega arith) c.rect-part.ensures.value c.rect-whole.ensures.value c.loop-b.invariant.from c.loop-b.invariant.base in
-    rw c.in-Some.ensures.same.1 (c.requires.small (c.loop-b.from + j) (omega (arith, within)))
+    rw (c.lowered-quantiser.ensures.greatest, c.in-Some.ensures.1) (c.requires.small (c.loop-b.from + j) (omega (arith, within)))
 
 pub overflow_add-from : goal.overflow_add-from
 overflow_add-from c =
@@ -76,13 +76,14 @@ loop-b-preserved c =
     let part = c.rect-part.result in
     let whole = c.rect-whole.result in
     let new = c.put_part.new.strip in
-    let q = c.in-Some.quantiser in
-    let own = c.in-Some.ensures.same.0 ∙ c.quantiser.ensures in
+    let q = c.lowered-quantiser.result in
+    let own : q.index ≡ bands.index - slice_index_or parts.plan.matrix b 0 =
+    omega (arith, c.lowered-quantiser.ensures.index, c.in-Some.ensures.0, c.matrix_entry.ensures) in
     let bands_alike = same_bands run parts c.requires.own c.args.c in
     let within = part_within run parts c.requires.own c.args.c b from base part whole (omega arith) c.rect-part.ensures.value c.rect-whole.ensures.value c.loop-b.invariant.from c.loop-b.invariant.base in
     let cells = there run parts c.requires.own c.args.c b from base part whole (omega arith) c.rect-part.ensures.value c.rect-whole.ensures.value c.loop-b.invariant.from c.loop-b.invariant.base in
     let small : (j : ℕ) → j < area part → unsigned_abs (line_of numbers (from + j)) ≤ q.greatest =
-    λ j h. rw c.in-Some.ensures.same.1 (c.requires.small (from + j) (omega (arith, within))) in
+    λ j h. rw (c.lowered-quantiser.ensures.greatest, c.in-Some.ensures.1) (c.requires.small (from + j) (omega (arith, within))) in
     let here = coefficient_in bands c.args.c numbers b from q.index part (omega (arith, bands_alike)) c.rect-part.ensures.value c.loop-b.invariant.from own in
     let on = λ (j : ℕ) (h : j < area part). c.put_part.ensures.on j h ∙ here j h in
     let cell = λ (j : ℕ). base + cell_of whole (place_in part j) in
@@ -108,4 +109,4 @@ pub returns-clause-only : goal.returns-clause-only
 returns-clause-only c = record { length = c.loop-b.invariant.length; others = c.loop-b.invariant.off }
 
 pub returns-in_default-clause-only : goal.returns-in_default-clause-only
-returns-in_default-clause-only c = record { length = c.loop-b.invariant.length; others = c.loop-b.invariant.off }
+returns-in_default-clause-only c = record { length = refl; others = λ k none. refl }
