@@ -132,7 +132,7 @@ pub(crate) fn keep_slices(
     let mut rest = part.body.clone()?;
     let mut seen = Seen {
         conflict: false,
-        slices: Vec::new(alloc),
+        slices: Vec::with_capacity(alloc, usize::from(part.count))?,
     };
     for i in first..first + usize::from(part.count) {
         let Ok(len) = cut(plan.prefix, plan.scaler, rest.as_slice()) else {

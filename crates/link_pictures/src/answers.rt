@@ -24,10 +24,10 @@ use vc_slice::{RunDone, RunJob, SliceDone};
 use vc_types::{NoMemory, Plan, Plane};
 
 /// The answers to slices of pictures that aren't released. Contracts see, of each picture that has
-/// one, its number, its parameters and its answers. A picture takes 8 bytes a coefficient from its
-/// first answer on, and the memory of one picture is kept for the next of the same plan. Where there are
-/// threads, a picture is transformed in four parts side by side, by join; otherwise in turn. After
-/// `NoMemory` nothing is promised of them.
+/// one, its number, its parameters and its answers. A picture reserves 8 bytes a coefficient from its
+/// first answer on, half of which stay untouched until a coefficient may not fit 32 bits, and the memory
+/// of one picture is kept for the next of the same plan. Where there are threads, a picture is transformed
+/// in four parts side by side, by join; otherwise in turn. After `NoMemory` nothing is promised of them.
 #[derive(Drop)]
 pub struct Answers<H> {
     alloc: Global,

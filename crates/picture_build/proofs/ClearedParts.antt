@@ -13,11 +13,11 @@ use Rattle.picture_build.proofs.TwoParts.{length_in, length_seen, narrow_at, see
 pub written_through : (items old new : List ℤ) (len : ℕ) → old ≡ items → len ≡ length items → length new ≡ length old → take len (new ++ drop (length new) items) ≡ new
 written_through items old new len same long kept = written_over len new (drop (length new) items) (omega (arith, long, ap length same, kept))
 
-module _ (bands : SliceBands) (c : Component) (wide : Bool) (high low now : List ℤ) (view : cells_in wide high low ≡ now) (even : length high ≡ length low) (low2 : List ℤ) (only : ChangesPart bands.parts.now c low low2) where
+module _ (bands : SliceBands) (c : Component) (wide : Bool) (high low now : List ℤ) (view : cells_in wide high low ≡ now) (even : wide ≡ true → length high ≡ length low) (low2 : List ℤ) (only : ChangesPart bands.parts.now c low low2) where
   -- both parts
   module _ (e : wide ≡ true) (high2 : List ℤ) (cleared : ChangesPart bands.parts.now c high high2) where
     pub even2 : length high2 ≡ length low2
-    even2 = cleared.length ∙ even ∙ sym only.length
+    even2 = cleared.length ∙ even e ∙ sym only.length
 
     pub both_change : ChangesPart bands.parts.now c now (cells_in wide high2 low2)
     both_change = record {
@@ -37,7 +37,7 @@ module _ (bands : SliceBands) (c : Component) (wide : Bool) (high low now : List
   module _ (e : wide ≡ false) where
     pub low_changes : ChangesPart bands.parts.now c now (cells_in wide high low2)
     low_changes = record {
-      length = length_in wide high low2 (even ∙ sym only.length) ∙ only.length ∙ sym (length_seen wide high low now view even);
+      length = length_in wide high low2 (λ w. even w ∙ sym only.length) ∙ only.length ∙ sym (length_seen wide high low now view even);
       others = λ k none. narrow_at wide high low2 k e ∙ only.others k none ∙ sym (seen_narrow wide high low now view even k e);
     }
 

@@ -22,3 +22,4 @@ pub mod NarrowPlanes
 pub mod FilledRuns
 pub mod KeptRuns
 pub mod RunSlices
+pub mod LargestSlices

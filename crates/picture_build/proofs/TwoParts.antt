@@ -14,8 +14,8 @@ length_pairs [] (y ∷ ys) e = absurd (omega arith)
 length_pairs (x ∷ xs) [] e = absurd (omega arith)
 length_pairs (x ∷ xs) (y ∷ ys) e = let more = length_pairs xs ys (omega arith) in omega (arith, more)
 
-pub length_in : (wide : Bool) (high low : List ℤ) → length high ≡ length low → length (cells_in wide high low) ≡ length low
-length_in true high low e = length-map (zip high low) _ ∙ length_pairs high low e
+pub length_in : (wide : Bool) (high low : List ℤ) → (wide ≡ true → length high ≡ length low) → length (cells_in wide high low) ≡ length low
+length_in true high low e = length-map (zip high low) _ ∙ length_pairs high low (e refl)
 length_in false high low e = refl
 
 pub narrow_at : (wide : Bool) (high low : List ℤ) (k : ℕ) → wide ≡ false → line_of (cells_in wide high low) k ≡ line_of low k
@@ -30,7 +30,7 @@ wide_at true high low k e long = elim (cases_lt k (length low)) [
       get_or-map (λ (z : ℤ × ℤ). whole_number z.0 z.1) (zip high low) k (pos 0, pos 0) (pos 0) (omega (arith, pairs))
       ∙ ap (λ (z : ℤ × ℤ). whole_number z.0 z.1) (get_or-zip high low k (pos 0, pos 0) (omega (arith, long)) lt))
   | inr ge ↦ (
-      let all = length_in true high low long in
+      let all = length_in true high low (λ _. long) in
       get_or_past (cells_in true high low) k (pos 0) (omega (arith, all))
       ∙ sym (ap (λ (z : ℤ). whole_number z (line_of low k)) (get_or_past high k (pos 0) (omega (arith, long))) ∙ ap (whole_number (pos 0)) (get_or_past low k (pos 0) ge)))
 ]
@@ -46,7 +46,7 @@ no_high z = omega (arith, ints)
 
 -- ---- cells as they are seen
 
-module _ (wide : Bool) (high low now : List ℤ) (view : cells_in wide high low ≡ now) (even : length high ≡ length low) where
+module _ (wide : Bool) (high low now : List ℤ) (view : cells_in wide high low ≡ now) (even : wide ≡ true → length high ≡ length low) where
   pub length_seen : length now ≡ length low
   length_seen = sym (ap length view) ∙ length_in wide high low even
 
@@ -54,12 +54,12 @@ module _ (wide : Bool) (high low now : List ℤ) (view : cells_in wide high low 
   seen_narrow k e = sym (ap (λ (xs : List ℤ). line_of xs k) view) ∙ narrow_at wide high low k e
 
   pub seen_wide : (k : ℕ) → wide ≡ true → line_of now k ≡ whole_number (line_of high k) (line_of low k)
-  seen_wide k e = sym (ap (λ (xs : List ℤ). line_of xs k) view) ∙ wide_at wide high low k e even
+  seen_wide k e = sym (ap (λ (xs : List ℤ). line_of xs k) view) ∙ wide_at wide high low k e (even e)
 
   -- both parts are written, in cells that have them
   module _ (e : wide ≡ true) (high2 low2 : List ℤ) (even2 : length high2 ≡ length low2) where
     pub written_length : length low2 ≡ length low → length (cells_in wide high2 low2) ≡ length now
-    written_length same = length_in wide high2 low2 even2 ∙ same ∙ sym length_seen
+    written_length same = length_in wide high2 low2 (λ _. even2) ∙ same ∙ sym length_seen
 
     pub written_off : (k : ℕ) → line_of high2 k ≡ line_of high k → line_of low2 k ≡ line_of low k → line_of (cells_in wide high2 low2) k ≡ line_of now k
     written_off k same_high same_low =
@@ -80,7 +80,7 @@ module _ (wide : Bool) (high low now : List ℤ) (view : cells_in wide high low 
   -- cells get a second part
   module _ (e : wide ≡ false) (high2 low2 : List ℤ) (even2 : length high2 ≡ length low2) where
     pub widened_length : length low2 ≡ length low → length (cells_in true high2 low2) ≡ length now
-    widened_length same = length_in true high2 low2 even2 ∙ same ∙ sym length_seen
+    widened_length same = length_in true high2 low2 (λ _. even2) ∙ same ∙ sym length_seen
 
     pub widened_off : (k : ℕ) → line_of high2 k ≡ pos 0 → line_of low2 k ≡ line_of low k → line_of (cells_in true high2 low2) k ≡ line_of now k
     widened_off k none same =

@@ -34,8 +34,9 @@ pub enum NotPut {
 }
 
 /// A picture whose slices come one after another, in any order. It is seen as the transform parameters and
-/// a finite map from a slice's number to its coefficients. It keeps 8 bytes a coefficient, and 4 more for
-/// each coefficient of its largest slice; no slice that comes takes more.
+/// a finite map from a slice's number to its coefficients. It reserves 8 bytes a coefficient, half of which
+/// stay untouched until one may not fit 32 bits, and 4 more for each coefficient that a slice may have at
+/// most; no slice that comes takes more.
 #[derive(Drop)]
 pub struct PictureBuilder {
     alloc: Global,

@@ -1,5 +1,5 @@
 ghost use Rattle.std.specs.Prelude.{◌≡◌, ◌≢◌, ◌+◌, ◌*◌, ◌^◌, ◌<◌, ◌≤◌, ℕ, ℤ, pos};
-ghost use Rattle.std.specs.Prelude.{IfOk, IfSome, OnOk, length, unsigned_abs};
+ghost use Rattle.std.specs.Prelude.{IfOk, IfSome, OnOk, length, replicate, unsigned_abs, vec_capacity};
 ghost use Rattle.vc_types.specs.Lifting.{line_of};
 ghost use Rattle.vc_types.specs.Subbands.{area};
 ghost use Rattle.picture_build.specs.Cells.{whole_number};
@@ -22,20 +22,20 @@ const HIGH: i64 = 1 << 30;
 #[derive(Drop)]
 pub(crate) struct CoefficientCells {
     low: Vec<i32>,
-    // Untouched, until some coefficient is too wide for the low part alone.
+    // Has room for as many, which stays untouched until some coefficient is too wide for the low part alone.
     high: Vec<i32>,
     is_wide: bool,
 }
 
 impl Model for CoefficientCells {
-    ghost use Rattle.std.specs.Prelude.{◌≡◌, List, ℤ, length};
-    ghost use Rattle.picture_build.specs.Cells.{cells_in};
+    ghost use Rattle.std.specs.Prelude.{List, ℤ, vec_capacity};
+    ghost use Rattle.picture_build.specs.Cells.{AreParts, cells_in};
 
     ghost Value = { List ℤ };
 
     ghost view = { λ s. cells_in s.is_wide s.high.items s.low.items };
 
-    ghost invariant = { λ s. length s.high.items ≡ length s.low.items };
+    ghost invariant = { λ s. AreParts s.is_wide (vec_capacity s.high) s.high.items s.low.items };
 }
 
 impl CoefficientCells {
@@ -45,7 +45,7 @@ impl CoefficientCells {
     {
         Ok(CoefficientCells {
             low: vec![in alloc; 0; len]?,
-            high: vec![in alloc; 0; len]?,
+            high: Vec::with_capacity(alloc, len)?,
             is_wide: false,
         })
     }
@@ -131,7 +131,7 @@ impl CoefficientCells {
             self.high[at] = high;
             self.low[at] = low;
         } else {
-            self.high.fill(0);
+            clear_all(&mut self.high, self.low.len());
             self.high[at] = high;
             self.low[at] = low;
             self.is_wide = true;
@@ -196,9 +196,17 @@ fn copy_many(cells: &mut [i32], at: usize, numbers: &[i32], from: usize, width: 
     ensures off { ChangesRow width at cells.old cells.new }
     ensures length { length cells.new ≡ length cells.old }
 {
-    for x in 0..width {
-        cells[at + x] = numbers[from + x];
-    }
+    cells[at..at + width].copy_from_slice(&numbers[from..from + width]);
+}
+
+// So many cells of 0, in the memory that is there.
+fn clear_all(cells: &mut Vec<i32>, len: usize)
+    requires { len ≤ vec_capacity cells.old }
+    ensures items { cells.new.items ≡ replicate len (pos 0) }
+    ensures room { len ≤ vec_capacity cells.new }
+{
+    cells.clear();
+    cells.resize(len, 0).unwrap();
 }
 
 fn clear_row(cells: &mut [i32], at: usize, width: usize)

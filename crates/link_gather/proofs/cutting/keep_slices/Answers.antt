@@ -66,7 +66,7 @@ loop-i-preserved c =
     }
 
 -- the bytes end, which has_slices rules out
-cut_short : (c : goal.Joined-rest) → slices_cut (parameters_of c.args.plan.now) (c.args.first + c.args.part.now.count - c.loop-i.i) c.loop-i.rest ≡ []
+cut_short : (c : goal.Joined-rest-2) → slices_cut (parameters_of c.args.plan.now) (c.args.first + c.args.part.now.count - c.loop-i.i) c.loop-i.rest ≡ []
 cut_short c =
     let p = parameters_of c.args.plan.now in
     left_cut p c.loop-i.slots c.loop-i.i c.loop-i.rest (c.args.first + c.args.part.now.count) (search rules)
@@ -82,7 +82,7 @@ returns-in_default-clause-conflict c =
     sym (conflict_none (parameters_of c.args.plan.now) c.loop-i.slots c.loop-i.i c.loop-i.rest _ (cut_short c) c.loop-i.seen.conflict)
     ∙ c.loop-i.invariant.conflict
 
-all_new_cut_short : (c : goal.Joined-rest) → map new_slice_of c.loop-i.seen.slices.items
+all_new_cut_short : (c : goal.Joined-rest-2) → map new_slice_of c.loop-i.seen.slices.items
     ≡ run_new (parameters_of c.args.plan.now) c.args.slots.now
     (run_cut (parameters_of c.args.plan.now) c.args.first c.args.part.now.count c.args.part.now.body)
 all_new_cut_short c =
@@ -99,7 +99,7 @@ returns-in_default-clause-some c =
     some_new p c.args.slots.now (run_cut p c.args.first c.args.part.now.count c.args.part.now.body)
     new_slice_of c.loop-i.seen.slices.items (all_new_cut_short c)
 
-none_behind : (c : goal.Joined-rest-4) → slices_cut (parameters_of c.args.plan.now) (c.args.first + c.args.part.now.count - c.loop-i.i) c.loop-i.rest ≡ []
+none_behind : (c : goal.Joined-rest-5) → slices_cut (parameters_of c.args.plan.now) (c.args.first + c.args.part.now.count - c.loop-i.i) c.loop-i.rest ≡ []
 none_behind c =
     left_none (parameters_of c.args.plan.now) c.loop-i.slots c.loop-i.i c.loop-i.rest
     (c.args.first + c.args.part.now.count) (search rules)
@@ -114,7 +114,7 @@ returns-clause-conflict c =
     sym (conflict_none (parameters_of c.args.plan.now) c.loop-i.slots c.loop-i.i c.loop-i.rest _ (none_behind c) c.loop-i.seen.conflict)
     ∙ c.loop-i.invariant.conflict
 
-all_new : (c : goal.Joined-rest-4) → map new_slice_of c.loop-i.seen.slices.items
+all_new : (c : goal.Joined-rest-5) → map new_slice_of c.loop-i.seen.slices.items
     ≡ run_new (parameters_of c.args.plan.now) c.args.slots.now
     (run_cut (parameters_of c.args.plan.now) c.args.first c.args.part.now.count c.args.part.now.body)
 all_new c =

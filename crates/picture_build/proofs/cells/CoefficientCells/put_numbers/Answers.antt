@@ -10,13 +10,13 @@ use Rattle.picture_build.proofs.cells.CoefficientCells.put_numbers.Goals as goal
 pub put_dequantised-done-requires-clause-cells : goal.put_dequantised-done-requires-clause-cells
 put_dequantised-done-requires-clause-cells c =
     ap length c.deref_mut.ensures.value
-    ∙ sym (length_seen c.self.inside.is_wide c.self.inside.high.items c.self.inside.low.items c.args.self.now c.self.view_is c.self.invariant)
+    ∙ sym (length_seen c.self.inside.is_wide c.self.inside.high.items c.self.inside.low.items c.args.self.now c.self.view_is c.self.invariant.even)
     ∙ c.requires.cells
 
 pub clear_part-requires : goal.clear_part-requires
 clear_part-requires c =
-    ap length c.deref_mut-then-self.ensures.value ∙ c.self.invariant
-    ∙ sym (length_seen c.self.inside.is_wide c.self.inside.high.items c.self.inside.low.items c.args.self.now c.self.view_is c.self.invariant)
+    ap length c.deref_mut-then-self.ensures.value ∙ c.self.invariant.even c.if-self.true
+    ∙ sym (length_seen c.self.inside.is_wide c.self.inside.high.items c.self.inside.low.items c.args.self.now c.self.view_is c.self.invariant.even)
     ∙ c.requires.cells
 
 -- ---- both parts are written
@@ -46,12 +46,16 @@ only_high c = subst (λ zs. ChangesPart c.args.bands.now.parts.now c.args.c zs c
 
 pub invariant_of-self : goal.invariant_of-self
 invariant_of-self c =
-    ap length (high_is c) ∙ (only_high c).length ∙ c.self.invariant ∙ sym (only_low c).length ∙ sym (ap length (low_is c))
+    let long = ap length (low_is c) ∙ (only_low c).length in
+    record {
+      room = omega (arith, long, c.self.invariant.room);
+      even = λ wide. ap length (high_is c) ∙ (only_high c).length ∙ c.self.invariant.even wide ∙ sym long;
+    }
 
 pub returns-then-self-clause-only : goal.returns-then-self-clause-only
 returns-then-self-clause-only c =
     subst (ChangesPart c.args.bands.now.parts.now c.args.c c.args.self.now) (sym (cells_are c))
-    (both_change c.args.bands.now c.args.c c.self.inside.is_wide c.self.inside.high.items c.self.inside.low.items c.args.self.now c.self.view_is c.self.invariant c.put_dequantised-done.new.cells (only_low c) c.if-self.true c.clear_part.new.cells (only_high c))
+    (both_change c.args.bands.now c.args.c c.self.inside.is_wide c.self.inside.high.items c.self.inside.low.items c.args.self.now c.self.view_is c.self.invariant.even c.put_dequantised-done.new.cells (only_low c) c.if-self.true c.clear_part.new.cells (only_high c))
 
 pub returns-then-self-clause-all : goal.returns-then-self-clause-all
 returns-then-self-clause-all c =
@@ -59,7 +63,7 @@ returns-then-self-clause-all c =
     let coefficients = numbered_in bands c.args.c c.args.numbers.now in
     on_ok_weaker c.put_dequantised-done.result (λ puts.
     subst (PutsCoefficients bands c.args.c coefficients c.args.self.now) (sym (cells_are c))
-    (both_put bands c.args.c c.self.inside.is_wide c.self.inside.high.items c.self.inside.low.items c.args.self.now c.self.view_is c.self.invariant c.put_dequantised-done.new.cells (only_low c) c.if-self.true c.clear_part.new.cells (only_high c)
+    (both_put bands c.args.c c.self.inside.is_wide c.self.inside.high.items c.self.inside.low.items c.args.self.now c.self.view_is c.self.invariant.even c.put_dequantised-done.new.cells (only_low c) c.if-self.true c.clear_part.new.cells (only_high c)
     coefficients c.clear_part.ensures.on (subst (λ (zs : List ℤ). PutsCoefficients bands c.args.c coefficients zs c.put_dequantised-done.new.cells) c.deref_mut.ensures.value puts)))
     c.put_dequantised-done.ensures.all
 
@@ -75,12 +79,17 @@ only_alone : (c : goal.Else-self) → ChangesPart c.args.bands.now.parts.now c.a
 only_alone c = subst (λ zs. ChangesPart c.args.bands.now.parts.now c.args.c zs c.put_dequantised-done.new.cells) c.deref_mut.ensures.value c.put_dequantised-done.ensures.only
 
 pub invariant_of-self-else-self : goal.invariant_of-self-else-self
-invariant_of-self-else-self c = c.self.invariant ∙ sym (only_alone c).length ∙ sym (ap length (alone_is c))
+invariant_of-self-else-self c =
+    let long = ap length (alone_is c) ∙ (only_alone c).length in
+    record {
+      room = omega (arith, long, c.self.invariant.room);
+      even = λ wide. c.self.invariant.even wide ∙ sym long;
+    }
 
 pub returns-else-self-clause-only : goal.returns-else-self-clause-only
 returns-else-self-clause-only c =
     subst (λ zs. ChangesPart c.args.bands.now.parts.now c.args.c c.args.self.now (cells_in c.self.inside.is_wide c.self.inside.high.items zs)) (sym (alone_is c))
-    (low_changes c.args.bands.now c.args.c c.self.inside.is_wide c.self.inside.high.items c.self.inside.low.items c.args.self.now c.self.view_is c.self.invariant c.put_dequantised-done.new.cells (only_alone c) c.if-self.false)
+    (low_changes c.args.bands.now c.args.c c.self.inside.is_wide c.self.inside.high.items c.self.inside.low.items c.args.self.now c.self.view_is c.self.invariant.even c.put_dequantised-done.new.cells (only_alone c) c.if-self.false)
 
 pub returns-else-self-clause-all : goal.returns-else-self-clause-all
 returns-else-self-clause-all c =
@@ -88,6 +97,6 @@ returns-else-self-clause-all c =
     let coefficients = numbered_in bands c.args.c c.args.numbers.now in
     on_ok_weaker c.put_dequantised-done.result (λ puts.
     subst (λ (zs : List ℤ). PutsCoefficients bands c.args.c coefficients c.args.self.now (cells_in c.self.inside.is_wide c.self.inside.high.items zs)) (sym (alone_is c))
-    (low_put bands c.args.c c.self.inside.is_wide c.self.inside.high.items c.self.inside.low.items c.args.self.now c.self.view_is c.self.invariant c.put_dequantised-done.new.cells (only_alone c) c.if-self.false
+    (low_put bands c.args.c c.self.inside.is_wide c.self.inside.high.items c.self.inside.low.items c.args.self.now c.self.view_is c.self.invariant.even c.put_dequantised-done.new.cells (only_alone c) c.if-self.false
     coefficients (subst (λ (zs : List ℤ). PutsCoefficients bands c.args.c coefficients zs c.put_dequantised-done.new.cells) c.deref_mut.ensures.value puts)))
     c.put_dequantised-done.ensures.all
