@@ -4,3 +4,4 @@ pub mod FrameEnds
 pub mod Holding
 pub mod SampleBytes
 pub mod PartsOut
+pub mod Taken

@@ -1,21 +1,16 @@
 -- The bytes of a frame that was read are the bytes that it was read from.
 use Rattle.std.proofs.Common.{◌≡◌, ℕ, ◌+◌, ◌-◌, ◌*◌, ◌/◌, ◌%◌, ◌<◌, Bool, true, false, List, [], ◌∷◌, ◌++◌, length, take, drop, All, arith, refl, ap, ◌∙◌, take-append-drop}
-use Rattle.std.specs.Prelude.{if◌then◌else◌}
 use Rattle.std.proofs.lemmas.List.{length-take-le, length-drop}
 use Rattle.std.proofs.lemmas.List.Elements.{All-drop, All-take, All-head, All-tail}
 use Rattle.std.proofs.lemmas.List.Concat.{flat_map-cons, flat_map-append}
 use Rattle.frame_writer.proofs.SampleBytes.{samples_bytes-narrow}
-use Rattle.frame_writer.specs.FrameBytes.{samples_of_bytes, sample_count, frame_length, frame_of_bytes}
+use Rattle.frame_writer.specs.FrameBytes.{length_in as len, samples_of_bytes, sample_count, frame_length, frame_of_bytes}
 use Rattle.vc_types.specs.declared.shape.Shape.{Shape}
 use Rattle.vc_types.specs.declared.video.Component.TheVariants.{Y, C1}
 use Rattle.vc_types.specs.RawFrames.{is_wide, sample_bytes, samples_bytes, frame_bytes}
 
 abbrev AreBytes : List ℕ → Type 0
 AreBytes bytes = All (λ byte. byte < 256) bytes
-
--- how many bytes so many samples have
-abbrev len : Bool → ℕ → ℕ
-len two samples = if two then 2 * samples else samples
 
 two_back : (low high : ℕ) → low < 256 → high < 256 → sample_bytes true (low + 256 * high) ≡ low ∷ high ∷ []
 unfolding sample_bytes
@@ -42,7 +37,8 @@ unfolding samples_of_bytes
 back true samples bytes long fit = wide_back samples bytes long fit
 back false samples bytes long fit = samples_bytes-narrow bytes
 
-lens : (two : Bool) (luma colour : ℕ) → len two (luma + (colour + colour)) ≡ len two luma + (len two colour + len two colour)
+-- how many bytes a frame's samples have
+pub lens : (two : Bool) (luma colour : ℕ) → len two (luma + (colour + colour)) ≡ len two luma + (len two colour + len two colour)
 lens true luma colour = omega arith
 lens false luma colour = refl
 

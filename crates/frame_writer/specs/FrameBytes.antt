@@ -19,9 +19,13 @@ samples_of_bytes false bytes = bytes
 abbrev pub sample_count : Shape → Component → ℕ
 sample_count shape c = plane_width shape c * plane_height shape c
 
+-- how many bytes so many samples have
+abbrev pub length_in : Bool → ℕ → ℕ
+length_in two samples = if two then 2 * samples else samples
+
 -- how many bytes so many samples of a frame have
 abbrev pub length_of_samples : Shape → ℕ → ℕ
-length_of_samples shape samples = if is_wide shape then 2 * samples else samples
+length_of_samples shape samples = length_in (is_wide shape) samples
 
 abbrev pub plane_length : Shape → Component → ℕ
 plane_length shape c = length_of_samples shape (sample_count shape c)

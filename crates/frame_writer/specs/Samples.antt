@@ -1,5 +1,6 @@
 -- Samples as the bytes that go out.
-use Rattle.std.specs.Prelude.{ℕ, ◌*◌, ◌<◌, Bool, List, All, length, if◌then◌else◌}
+use Rattle.std.specs.Prelude.{ℕ, ◌<◌, Bool, List, All, length}
+use Rattle.frame_writer.specs.FrameBytes.{length_in}
 use Rattle.vc_types.specs.Planes.{Planes}
 
 -- each sample fits a byte
@@ -14,4 +15,4 @@ pub record HaveByteSamples (planes : Planes) : Type 0 where
 
 -- how many bytes samples have
 abbrev pub byte_count : Bool → List ℕ → ℕ
-byte_count two samples = if two then 2 * length samples else length samples
+byte_count two samples = length_in two (length samples)

@@ -1,18 +1,16 @@
-ghost use Rattle.std.specs.Prelude.{◌≡◌, false, length};
+ghost use Rattle.std.specs.Prelude.{◌≡◌, ◌*◌, ◌^◌, ◌<◌, false, length};
 ghost use Rattle.vc_types.specs.RawFrames.{samples_bytes};
+ghost use Rattle.frame_writer.specs.FrameBytes.{length_in};
 ghost use Rattle.frame_writer.specs.Samples.{FitBytes, byte_count};
 
 use byteorder::{ByteOrder, LittleEndian};
 
-// How many bytes so many samples have.
-pub(crate) fn byte_count(samples: &[u16], two: bool) -> usize
-    ensures { result ≡ byte_count two samples.now }
+/// How many bytes so many samples have.
+pub(crate) fn byte_count(samples: usize, two: bool) -> usize
+    requires { 2 * samples < 2 ^ 64 }
+    ensures { result ≡ length_in two samples }
 {
-    if two {
-        2 * samples.len()
-    } else {
-        samples.len()
-    }
+    if two { 2 * samples } else { samples }
 }
 
 // Fills a buffer with the bytes of samples, which are below 256 where they have one each.

@@ -11,6 +11,7 @@ mod pieces;
 mod read_fault;
 mod reading;
 mod samples;
+mod taking;
 mod width;
 
 pub use fault::FrameFault;

@@ -1,58 +1,41 @@
-ghost use Rattle.std.specs.Prelude.{◌≡◌, ◌<◌, ◌^◌, IsTrue, IfOk, length};
-ghost use Rattle.frame_writer.specs.FrameBytes.{frame_of_bytes, frame_length, sample_count};
-ghost use Rattle.frame_writer.specs.FrameBytes.{length_of_samples};
-ghost use Rattle.frame_writer.specs.Memory.{IsRoomFor};
+ghost use Rattle.std.specs.Prelude.{◌≡◌, ◌^◌, ◌<◌, IsTrue, IfOk};
+ghost use Rattle.frame_writer.specs.FrameBytes.{sample_count};
+ghost use Rattle.frame_writer.specs.Memory.{HasRoomFor, IsFilledFor, planes_with};
 ghost use Rattle.vc_types.specs.declared.video.Component.TheVariants.{Y, C1};
 ghost use Rattle.vc_types.specs.Limits.{shape_fits};
 ghost use Rattle.vc_types.specs.Planes.{planes_in};
-ghost use Rattle.vc_types.specs.RawFrames.{is_wide};
 
-use crate::is_wide;
-use crate::samples::take_samples;
 use std::alloc::{AllocError, Global};
 use vc_types::{Plane, Shape};
 
-/// The memory that the planes of a frame are read into: their samples.
+/// The memory that the planes of a frame are taken into: their samples.
 #[derive(Drop)]
 pub(crate) struct PlaneMemory {
-    y: Vec<u16>,
-    c1: Vec<u16>,
-    c2: Vec<u16>,
+    pub(crate) y: Vec<u16>,
+    pub(crate) c1: Vec<u16>,
+    pub(crate) c2: Vec<u16>,
 }
 
 impl PlaneMemory {
     /// Room for the planes of a shape.
     pub(crate) fn new(alloc: Global, shape: &Shape) -> Result<PlaneMemory, AllocError>
         requires { IsTrue (shape_fits shape.now) }
-        ensures { IfOk result (IsRoomFor shape.now) }
+        ensures { IfOk result (HasRoomFor shape.now) }
     {
         let colour = colour_count(shape);
         Ok(PlaneMemory {
-            y: vec![in alloc; 0; luma_count(shape)]?,
-            c1: vec![in alloc; 0; colour]?,
-            c2: vec![in alloc; 0; colour]?,
+            y: Vec::with_capacity(alloc, luma_count(shape))?,
+            c1: Vec::with_capacity(alloc, colour)?,
+            c2: Vec::with_capacity(alloc, colour)?,
         })
     }
 
-    /// The planes of the frame whose bytes were read.
-    #[tactic(auto, unfolding(crate::specs::FrameBytes::frame_of_bytes))]
-    pub(crate) fn into_planes(self, shape: &Shape, bytes: &[u8]) -> [Plane; 3]
-        requires fits { IsTrue (shape_fits shape.now) }
-        requires room { IsRoomFor shape.now self }
-        requires whole { length bytes.now ≡ frame_length shape.now }
-        ensures { planes_in result ≡ frame_of_bytes shape.now bytes.now }
+    /// The planes, once all their samples are there.
+    pub(crate) fn into_planes(self, shape: &Shape) -> [Plane; 3]
+        requires { IsFilledFor shape.now self }
+        ensures { planes_in result ≡ planes_with shape.now self.y.items self.c1.items self.c2.items }
     {
-        let PlaneMemory {
-            mut y,
-            mut c1,
-            mut c2,
-        } = self;
-        let (luma, colour) = bytes.split_at(len_of_samples(shape, y.len()));
-        let (first, second) = colour.split_at(len_of_samples(shape, c1.len()));
-        let two = is_wide(shape);
-        take_samples(&mut y, luma, two);
-        take_samples(&mut c1, first, two);
-        take_samples(&mut c2, second, two);
+        let PlaneMemory { y, c1, c2 } = self;
         [
             Plane::new(shape.luma_width, shape.luma_height, y),
             Plane::new(shape.colour_width, shape.colour_height, c1),
@@ -61,33 +44,21 @@ impl PlaneMemory {
     }
 }
 
-/// How many bytes a frame has.
-pub(crate) fn frame_len(shape: &Shape) -> usize
+/// How many samples the luma plane has.
+pub(crate) fn luma_count(shape: &Shape) -> usize
     requires { IsTrue (shape_fits shape.now) }
-    ensures { result ≡ frame_length shape.now }
-{
-    let colour = colour_count(shape);
-    len_of_samples(shape, luma_count(shape) + (colour + colour))
-}
-
-fn luma_count(shape: &Shape) -> usize
-    requires { IsTrue (shape_fits shape.now) }
-    ensures { result ≡ sample_count shape.now Y }
+    ensures value { result ≡ sample_count shape.now Y }
+    ensures some { 0 < result }
+    ensures small { result < 2 ^ 62 }
 {
     shape.luma_width as usize * shape.luma_height as usize
 }
 
-fn colour_count(shape: &Shape) -> usize
+/// How many samples a colour plane has.
+pub(crate) fn colour_count(shape: &Shape) -> usize
     requires { IsTrue (shape_fits shape.now) }
-    ensures { result ≡ sample_count shape.now C1 }
+    ensures value { result ≡ sample_count shape.now C1 }
+    ensures small { result < 2 ^ 62 }
 {
     shape.colour_width as usize * shape.colour_height as usize
-}
-
-// How many bytes so many samples of a frame have.
-fn len_of_samples(shape: &Shape, samples: usize) -> usize
-    requires { samples < 2 ^ 62 }
-    ensures { result ≡ length_of_samples shape.now samples }
-{
-    if is_wide(shape) { 2 * samples } else { samples }
 }

@@ -26,7 +26,7 @@ fn write_piece<O: Sink>(
         (GrewBySome (O.held sink.old) (O.held sink.new) (samples_bytes two samples.now)) }
     ensures cause { HasCause (O.faults sink.old) (O.faults sink.new) (IsErr result) }
 {
-    let (bytes, _) = buffer.split_at_mut(byte_count(samples, two));
+    let (bytes, _) = buffer.split_at_mut(byte_count(samples.len(), two));
     put_samples(bytes, samples, two);
     write_all(sink, bytes)
 }

@@ -1,6 +1,8 @@
 ghost use Rattle.std.specs.Prelude.{◌≡◌};
+ghost use Rattle.frame_writer.specs.Taking.{fault_of};
 ghost use Rattle.frame_writer.specs.declared.read_fault.FrameReadFault.TheVariants as fault;
 
+use crate::taking::Short;
 use std::alloc::AllocError;
 
 /// Why no frame was read.
@@ -18,5 +20,16 @@ impl From<AllocError> for FrameReadFault {
 
     fn from(_: AllocError) -> Self {
         FrameReadFault::NoMemory
+    }
+}
+
+impl From<Short> for FrameReadFault {
+    ghost from_gives = { λ short e. e ≡ fault_of short };
+
+    fn from(short: Short) -> Self {
+        match short {
+            Short::End(_) => FrameReadFault::Cut,
+            Short::Failed => FrameReadFault::ReadFault,
+        }
     }
 }
