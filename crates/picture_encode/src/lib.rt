@@ -1,6 +1,7 @@
 //! The slices of a picture that is sent, encoded at the indices that a chooser answers.
 #![tactic(auto)]
 
+mod ceiling;
 mod chooser;
 mod fitting;
 mod gathering;

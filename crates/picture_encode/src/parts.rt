@@ -10,6 +10,7 @@ ghost use Rattle.vc_types.specs.SenderSettings.{sending_view};
 ghost use Rattle.vc_types.specs.Subbands.{share_start, slice_count};
 ghost use Rattle.vc_types.specs.TransformParameters.{parameters_of};
 
+use crate::ceiling::index_ceiling;
 use crate::chooser::Chooser;
 use crate::grids::PictureGrids;
 use crate::refusal::SliceRefusal;
@@ -76,8 +77,11 @@ pub(crate) fn encode_slices<F: Fn(&SliceNeed) -> u8>(
     let from = part.from;
     let to = part.to;
     let mut slices = Vec::with_capacity(alloc, (to - from) as usize)?;
-    let mut near = 0;
+    let mut near = 127;
     for slice in from..to {
+        if slice == from || slice % plan.slices_x == 0 {
+            near = near.min(index_ceiling(plan, grids, slice));
+        }
         let parts = SliceParts::new(plan, slice);
         let sent = SentSlice { s, parts };
         let encoded = encode_slice(alloc, &sent, chooser, grids, near)?;
