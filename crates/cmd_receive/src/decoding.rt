@@ -6,7 +6,8 @@ ghost use Rattle.cmd_receive.specs.Playouts.{IsNew, IsWell, PlaysInput, playout_
 
 use crate::concluding::{conclude, with_record_counts};
 use crate::playout::Playout;
-use link_hearing::{HeardInput, InputForm, hear_input};
+use crate::settings::DecodeSettings;
+use link_hearing::{HeardInput, hear_input};
 use link_receiver::{Receiver, threads_beside};
 use link_report::{Answer, Ending};
 use std::alloc::Global;
@@ -14,42 +15,33 @@ use std::thread::Threads;
 use vc_ports::{Sink, Source};
 use vc_slice::{Hands, Places};
 
-/// Decodes a capture, or a pcap file: reads at most `packets` entries, or records, takes their datagrams with
-/// up to `window` pictures open (2 to 8), and writes the raw frames that they make. A frame is written as
-/// soon as its pictures are released. Each slice that a picture keeps is offered to `workers` workers; those
-/// that they don't decode in time are decoded here. With workers, each picture is also transformed in four
-/// parts side by side. If the input fails, ends within an entry or a record, or has a byte more than these
-/// entries, or if a pcap file has no head or a record that is too long, the frames of the datagrams received
-/// so far are still written.
+/// Decodes a capture, or a pcap file: reads at most `settings.packets` entries, or records, takes their
+/// datagrams with up to `settings.window` pictures open (2 to 8), and writes the raw frames that they make. A
+/// frame is written as soon as its pictures are released. Each slice that a picture keeps is offered to
+/// `settings.workers` workers; those that they don't decode in time are decoded here. With workers, each
+/// picture is also transformed in four parts side by side. If the input fails, ends within an entry or a
+/// record, or has a byte more than these entries, or if a pcap file has no head or a record that is too long,
+/// the frames of the datagrams received so far are still written.
 pub fn decode<H: Threads + Copy, S: Source, O: Sink, P: Hands>(
     rt: H,
     alloc: Global,
-    window: u8,
-    workers: u32,
-    packets: u32,
-    form: InputForm,
+    settings: &DecodeSettings,
     input: &mut S,
     output: &mut O,
     hands: &mut P,
 ) -> Answer
-    requires least { 2 ≤ window }
-    requires most { window ≤ 8 }
+    requires least { 2 ≤ settings.now.window }
+    requires most { settings.now.window ≤ 8 }
     requires free { P.is_free hands.old }
-    ensures { Decodes window workers packets form result
+    ensures { Decodes settings.now.window settings.now.workers settings.now.packets settings.now.form
+        result
         (input_of S.left S.faults input.old input.new)
         (output_of O.held O.faults output.old output.new)
         (changed P.Places.told hands.old hands.new) }
 {
-    take_input(
-        alloc,
-        workers,
-        packets,
-        form,
-        Receiver::new(alloc, threads_beside(rt, workers), window),
-        input,
-        output,
-        hands,
-    )
+    let threads = threads_beside(rt, settings.workers);
+    let receiver = Receiver::new(alloc, threads, settings.window);
+    take_input(alloc, settings, receiver, input, output, hands)
 }
 
 /// Unpacks a capture, or a pcap file: reads it as `decode` does, and writes the elementary stream of its
@@ -58,40 +50,29 @@ pub fn decode<H: Threads + Copy, S: Source, O: Sink, P: Hands>(
 pub fn unpack<H: Threads + Copy, S: Source, O: Sink, P: Hands>(
     rt: H,
     alloc: Global,
-    window: u8,
-    workers: u32,
-    packets: u32,
-    form: InputForm,
+    settings: &DecodeSettings,
     input: &mut S,
     output: &mut O,
     hands: &mut P,
 ) -> Answer
-    requires least { 2 ≤ window }
-    requires most { window ≤ 8 }
+    requires least { 2 ≤ settings.now.window }
+    requires most { settings.now.window ≤ 8 }
     requires free { P.is_free hands.old }
-    ensures { Unpacks window workers packets form result
+    ensures { Unpacks settings.now.window settings.now.workers settings.now.packets settings.now.form
+        result
         (input_of S.left S.faults input.old input.new)
         (output_of O.held O.faults output.old output.new)
         (changed P.Places.told hands.old hands.new) }
 {
-    take_input(
-        alloc,
-        workers,
-        packets,
-        form,
-        Receiver::units(alloc, threads_beside(rt, workers), window),
-        input,
-        output,
-        hands,
-    )
+    let threads = threads_beside(rt, settings.workers);
+    let receiver = Receiver::units(alloc, threads, settings.window);
+    take_input(alloc, settings, receiver, input, output, hands)
 }
 
 // Starts the workers, and has a new receiver take the datagrams of an input.
 fn take_input<H: Threads + Copy, S: Source, O: Sink, P: Hands>(
     alloc: Global,
-    workers: u32,
-    packets: u32,
-    form: InputForm,
+    settings: &DecodeSettings,
     receiver: Receiver<H>,
     input: &mut S,
     output: &mut O,
@@ -100,25 +81,24 @@ fn take_input<H: Threads + Copy, S: Source, O: Sink, P: Hands>(
     requires new { IsNew receiver }
     requires free { P.is_free hands.old }
     ensures { (writes : OutputForm) (window : ℕ) → HasHeard writes receiver window []
-        → TakesInput writes window workers packets form result
+        → TakesInput writes window settings.now.workers settings.now.packets settings.now.form result
         (input_of S.left S.faults input.old input.new)
         (output_of O.held O.faults output.old output.new)
         (changed P.Places.told hands.old hands.new) }
 {
-    let Ok(()) = hands.start_workers(workers) else {
+    let Ok(()) = hands.start_workers(settings.workers) else {
         return Answer::Stopped(Ending::NoMemory);
     };
     let mut receiver = receiver;
     let mut playout = Playout::new(&mut receiver, output, hands);
-    let heard = play_input(alloc, packets, form, input, &mut playout);
+    let heard = play_input(alloc, settings, input, &mut playout);
     with_record_counts(heard.records, conclude(&mut playout, heard.ended))
 }
 
 // Has a receiver that has heard nothing hear the datagrams of an input.
 fn play_input<H: Threads + Copy, S: Source, O: Sink, P: Places>(
     alloc: Global,
-    packets: u32,
-    form: InputForm,
+    settings: &DecodeSettings,
     input: &mut S,
     playout: &mut Playout<H, O, P>,
 ) -> HeardInput
@@ -126,9 +106,10 @@ fn play_input<H: Threads + Copy, S: Source, O: Sink, P: Places>(
     ensures borrows_output { playout.new.output.ghost_name ≡ playout.old.output.ghost_name }
     ensures borrows_places { playout.new.places.ghost_name ≡ playout.old.places.ghost_name }
     ensures well { IsWell (playout_state O.held O.faults P.told P.bound playout.new) }
-    ensures heard { PlaysInput form packets (input_of S.left S.faults input.old input.new)
+    ensures heard { PlaysInput settings.now.form settings.now.packets
+        (input_of S.left S.faults input.old input.new)
         (playout_state O.held O.faults P.told P.bound playout.old)
         (playout_state O.held O.faults P.told P.bound playout.new) result }
 {
-    hear_input(alloc, form, packets, input, playout)
+    hear_input(alloc, settings.form, settings.packets, input, playout)
 }

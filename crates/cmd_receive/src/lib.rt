@@ -10,9 +10,11 @@ mod outlet;
 mod playout;
 mod receiving;
 mod session_playout;
+mod settings;
 mod wire_inlet;
 
 pub use count::SessionCount;
 pub use decoding::{decode, unpack};
 pub use looping::loop_back;
 pub use receiving::recv;
+pub use settings::DecodeSettings;

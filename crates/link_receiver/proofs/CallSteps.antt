@@ -243,14 +243,11 @@ TakesBack a b old new = (calls : List PlaceCall) × IsExchanged a b old new call
     × (proposed_in (exchanges_of calls) ≡ [])
     × (is_some (next_picture old) ≡ true → are_asked old.out (exchanges_of calls) ≡ true)
 
-pub takes_nothing : (told : Option Told) (r : Reception) → None ≡ next_picture r
-    → TakesBack told told r r
-takes_nothing told r e = (
-  [],
-  no_call told r,
-  refl,
-  λ some. absurd (none_is_next (next_picture r) e some),
-)
+-- where no picture is next, some places may be asked
+pub takes_some : (a b : Option Told) (r s : Reception) → None ≡ next_picture r
+    → OffersNothing a b r s → TakesBack a b r s
+takes_some a b r s e h =
+    (h.0, h.1, h.2, λ some. absurd (none_is_next (next_picture r) e some))
 
 -- what is out is asked, and nothing is offered behind that
 abbrev pub AsksAll : Option Told → Option Told → Reception → Reception → Type 0

@@ -19,7 +19,10 @@ use vc_slice::{Places, RunDone, RunJob, RunLoad, SliceJob};
 use vc_types::NoMemory;
 
 // How many rooms for strips are kept.
-const MOST_ROOMS: usize = 256;
+const MOST_ROOMS: usize = 64;
+
+// How many runs may be out before those that are decoded are taken back early.
+const FEW_OUT: usize = 24;
 
 #[tactic(auto, using(crate::proofs::Asked::keeps_none, crate::proofs::Asked::keeps_twice))]
 impl<H> Reception<H> {
@@ -45,7 +48,8 @@ impl<H> Reception<H> {
     }
 
     /// Takes back what is decoded, if a picture may be released, which is answered; and as long as a run
-    /// waits that nobody decodes, decodes the last of them here.
+    /// waits that nobody decodes, decodes the last of them here. Where no picture may be released, takes
+    /// runs back only where many are out.
     pub(crate) fn take_back<P: Places>(
         &mut self,
         places: &mut P,
@@ -61,6 +65,7 @@ impl<H> Reception<H> {
         ensures places { KeepsPlaces P.told P.bound places.old places.new self.new.out }
     {
         let Some(next) = self.next_release() else {
+            self.collect(places)?;
             return Ok(None);
         };
         let _came = self.ask_all(places)?;
@@ -193,6 +198,23 @@ impl<H> Reception<H> {
             Some(standing) => standing.are_own(job),
             None => false,
         }
+    }
+
+    // While more than a few runs are out, takes back the one that was put first, and stops at the first that
+    // isn't decoded. So the memory of their strips serves other runs early.
+    fn collect<P: Places>(&mut self, places: &mut P) -> Result<(), NoMemory>
+        requires below { PlacesAreBelow (P.bound places.old) self.old.out }
+        ensures exchanged { OnOk result ((calls : List PlaceCall)
+            × IsExchanged (P.told places.old) (P.told places.new) self.old self.new calls
+            × (proposed_in (exchanges_of calls) ≡ [])) }
+        ensures places { KeepsPlaces P.told P.bound places.old places.new self.new.out }
+    {
+        for _ in FEW_OUT..self.out_count() {
+            if !self.ask(0, places)? {
+                break;
+            }
+        }
+        Ok(())
     }
 
     // Takes runs back that wait, the last one first, and decodes each; then asks what is decoded by then.

@@ -9,9 +9,11 @@ use clock_pace::ClockPace;
 use link_net::{Launcher, Limits, LiveWire, Reader};
 use link_program::run_words;
 use link_report::Ending;
+use link_words::{Settings, read_words};
 use notes::{say_help, say_no_text, say_notes};
 use slice_pool::{Crew, Worker};
 use std::alloc::Global;
+use std::io::BufReader;
 use std::net::Net;
 use std::process::ExitCode;
 use std::sync::{Arc, Wait};
@@ -55,6 +57,20 @@ fn words_of(rt: &HostRuntime) -> Result<Words, u8> {
         };
     }
     Ok(words)
+}
+
+// How many bytes are read ahead where nobody reads behind a command.
+const AHEAD: usize = 65_536;
+
+// How many bytes of standard input are read ahead. `decode` and `unpack` read a capture in many small pieces,
+// and to its end, so that nobody reads behind them. With `--packets` they may stop before, and the rest is left
+// to whoever reads next: without it the number is the greatest.
+fn read_ahead(words: &Words) -> usize {
+    match read_words(words) {
+        Ok(Settings::Decode { packets, .. } | Settings::Unpack { packets, .. })
+            if packets == u32::MAX => AHEAD,
+        _ => 0,
+    }
 }
 
 // Of what comes from the network: how many bytes are kept, and how many the system is asked to keep.
@@ -108,6 +124,14 @@ fn main(rt: HostRuntime) -> ExitCode {
             return ExitCode::from(status);
         }
     };
+    let stdin = Awaited {
+        stream: rt.stdin(),
+        number: 0,
+    };
+    // With no room a read goes straight to the stream.
+    let Ok(stdin) = BufReader::with_capacity(rt.alloc(), read_ahead(&words), stdin) else {
+        return ExitCode::from(Ending::NoMemory.status());
+    };
     let Ok(start) = Box::new(rt.alloc(), move |reader: Reader| reader.start(rt)) else {
         return ExitCode::from(Ending::NoMemory.status());
     };
@@ -115,10 +139,7 @@ fn main(rt: HostRuntime) -> ExitCode {
         rt,
         rt.alloc(),
         &words,
-        &mut StdSource::new(Awaited {
-            stream: rt.stdin(),
-            number: 0,
-        }),
+        &mut StdSource::new(stdin),
         &mut StdSink::new(Awaited {
             stream: rt.stdout(),
             number: 1,

@@ -1,7 +1,7 @@
 use Rattle.std.proofs.Common.{◌≡◌, ◌∙◌, None, ap, sym}
 use Rattle.std.specs.Option.{option_map}
 use Rattle.receiver_model.specs.Releasing.{next_picture}
-use Rattle.link_receiver.proofs.CallSteps.{asks_then, still_next, takes_nothing}
+use Rattle.link_receiver.proofs.CallSteps.{asks_then, still_next, takes_some}
 use Rattle.link_window.specs.Views.{releasable_of}
 use Rattle.link_receiver.proofs.reception.Reception.take_back.Goals as goal
 
@@ -9,14 +9,18 @@ pub returns-in_default-clause-exchanged : goal.returns-in_default-clause-exchang
 returns-in_default-clause-exchanged g c =
     let none : None ≡ next_picture c.args.self.now =
     sym (ap (option_map releasable_of) c.in_default.is) ∙ c.next_release.ensures in
-    takes_nothing _ _ none
+    takes_some _ _ _ _ none c.in_ok-collect.ensures.exchanged
 
 pub returns-clause-exchanged : goal.returns-clause-exchanged
 returns-clause-exchanged g c = asks_then _ _ _ _ _ _ c.in_ok-_came.ensures.exchanged
     c.in_ok-help.ensures.exchanged
 
 pub returns-in_default-clause-next : goal.returns-in_default-clause-next
-returns-in_default-clause-next g c = sym (ap (option_map releasable_of) c.in_default.is) ∙ c.next_release.ensures
+returns-in_default-clause-next g c =
+    let none : None ≡ next_picture c.args.self.now =
+    sym (ap (option_map releasable_of) c.in_default.is) ∙ c.next_release.ensures in
+    let some = takes_some _ _ _ _ none c.in_ok-collect.ensures.exchanged in
+    none ∙ sym (still_next _ _ _ _ some)
 
 pub returns-clause-next : goal.returns-clause-next
 returns-clause-next g c =
