@@ -153,7 +153,7 @@ completes_at n id m i t done r h holds slots =
 -- ---- new boards and seats
 
 -- past the end, too
-get_replicate : {A : Type 0} (n p : ℕ) (x : A) → get_or (replicate n x) p x ≡ x
+pub get_replicate : {A : Type 0} (n p : ℕ) (x : A) → get_or (replicate n x) p x ≡ x
 get_replicate zero p x = refl
 get_replicate (suc n) zero x = refl
 get_replicate (suc n) (suc p) x = get_replicate n p x

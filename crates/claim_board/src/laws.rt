@@ -1,4 +1,4 @@
-ghost use Rattle.std.specs.Prelude.{◌≡◌, ℕ, ◌∷◌, ◌<◌, ◌≤◌, List, length, slice_index, Some};
+ghost use Rattle.std.specs.Prelude.{◌≡◌, ℕ, ◌*◌, ◌∷◌, ◌<◌, ◌≤◌, List, [], length, slice_index, Some};
 ghost use mathlib.Core.Option.{some};
 ghost use lib.ListN.{get_elem?};
 ghost use Rattle.claim_board.specs.declared.cargo.Cargo.TheVariants.{Finished};
@@ -7,10 +7,10 @@ ghost use Rattle.claim_board.specs.declared.view.Deed.TheVariants.{WasRead, WasT
 ghost use Rattle.claim_board.specs.declared.view.Entry.{Entry};
 ghost use Rattle.claim_board.specs.History.{after_deed, entry_of, places_after, word_of, IsHistory, MayDo};
 ghost use Rattle.claim_board.specs.Laws.{claims_in, AreItsEvents, IsOfFeeder, IsStepOf};
-ghost use Rattle.claim_board.specs.RunPlaces.{RunPlace, ShowRuns, place_at};
+ghost use Rattle.claim_board.specs.RunPlaces.{RunPlace, ShowRuns, place_at, run_places};
 ghost use Rattle.claim_board.specs.Rule.{BoardRule, BoardState};
 ghost use Rattle.claim_board.specs.Views.{SeatView};
-ghost use Rattle.machine_model.specs.Machine.{Machine};
+ghost use Rattle.machine_model.specs.Machine.{Machine, new_machine};
 ghost use Rattle.link_slices.specs.Jobs.{answered_run};
 ghost use Rattle.vc_slice.specs.declared.run.RunDone.{RunDone};
 
@@ -42,6 +42,13 @@ pub fn each_step_is_the_last()
 pub fn each_round_has_one_claim()
     ensures { (places place serial : ℕ) (history : List Entry) → IsHistory places history
         → claims_in place serial history ≤ 1 }
+{}
+
+/// Before the first step the places of a new machine, of which each place has as many as a run may have slices,
+/// show those of the board.
+pub fn a_new_machine_shows_a_new_board()
+    ensures { (places : ℕ)
+        → ShowRuns (new_machine (run_places * places)).places (places_after places []) }
 {}
 
 /// A step is an event of its name of the machine for each slice of its run, one after another: each is legal
