@@ -1,7 +1,7 @@
 //! Rows of bits that are read and written.
-use crate::codes::{add_signed, signed_of};
-use crate::words::{add_bytes, add_number, add_word, bytes_of, natural, parted};
-use std::alloc::Global;
+use crate::codes::{add_at_once, add_signed};
+use crate::said::Said;
+use crate::words::{bytes_of, natural, parted};
 use vc_bits::{BitReader, BitWriter, Block};
 use worked_common::{Bad, NamedBytes};
 
@@ -11,57 +11,54 @@ fn read_of(word: &str) -> Result<(&str, u32), Bad> {
     Ok((name, natural(count)?))
 }
 
-fn add_bits(alloc: Global, r: &mut BitReader, count: u32, into: &mut String) -> Result<(), Bad> {
+fn add_bits(r: &mut BitReader, count: u32, said: &mut Said) -> Result<(), Bad> {
     if count > 32 {
         return Err(Bad::NoRow);
     }
     match r.bits(count) {
-        Ok(number) => add_number(alloc, into, i128::from(number)),
-        Err(_) => add_word(into, "end"),
+        Ok(number) => said.word(number),
+        Err(_) => said.word("end"),
     }
+    Ok(())
 }
 
-fn add_bit(r: &mut BitReader, into: &mut String) -> Result<(), Bad> {
+fn add_bit(r: &mut BitReader, said: &mut Said) {
     match r.bit() {
-        Ok(true) => add_word(into, "1"),
-        Ok(false) => add_word(into, "0"),
-        Err(_) => add_word(into, "end"),
+        Ok(bit) => said.word(u8::from(bit)),
+        Err(_) => said.word("end"),
     }
 }
 
-fn add_block(r: &mut BitReader, count: u32, into: &mut String) -> Result<(), Bad> {
+fn add_block(r: &mut BitReader, count: u32, said: &mut Said) -> Result<(), Bad> {
     if r.place() % 8 != 0 {
         return Err(Bad::NoRow);
     }
     match r.block(count as usize) {
-        Ok(_) => add_word(into, "block"),
-        Err(_) => add_word(into, "end"),
+        Ok(_) => said.word("block"),
+        Err(_) => said.word("end"),
     }
+    Ok(())
 }
 
 // The bits of a block of so many, and four behind its end.
-fn add_bits_past(block: &Block, count: u32, into: &mut String) -> Result<(), Bad> {
+fn add_bits_past(block: &Block, count: u32, said: &mut Said) {
     let mut block = block.copy();
     for _ in 0..u64::from(count) + 4 {
-        into.push_str(if block.bit() { "1" } else { "0" })?;
+        let bit = u8::from(block.bit());
+        write!(said, "{bit}");
     }
-    add_word(into, "")
+    said.word("");
 }
 
 // A block of so many bits: its bits, and the numbers whose codes come first, one by one and at once.
-fn add_block_bits(
-    alloc: Global,
-    r: &mut BitReader,
-    count: u32,
-    into: &mut String,
-) -> Result<(), Bad> {
+fn add_block_bits(r: &mut BitReader, count: u32, said: &mut Said) -> Result<(), Bad> {
     let Ok(block) = r.block_bits(count as usize) else {
-        return add_word(into, "end");
+        said.word("end");
+        return Ok(());
     };
-    add_bits_past(&block, count, into)?;
-    add_signed(alloc, &block, 6, 1 << 62, into)?;
-    into.push_str(signed_of(alloc, &block, 6)?.as_str())?;
-    Ok(())
+    add_bits_past(&block, count, said);
+    add_signed(&block, 6, 1 << 62, said)?;
+    add_at_once(&block, 6, said)
 }
 
 fn skip(r: &mut BitReader, count: u32) -> Result<(), Bad> {
@@ -72,82 +69,71 @@ fn skip(r: &mut BitReader, count: u32) -> Result<(), Bad> {
     Ok(())
 }
 
-fn add_place(alloc: Global, r: &BitReader, into: &mut String) -> Result<(), Bad> {
-    let place = r.place();
-    let word = format!(in alloc; "{place}")?;
-    add_word(into, word.as_str())
-}
-
-fn add_left(alloc: Global, r: &BitReader, into: &mut String) -> Result<(), Bad> {
-    let left = r.bits_left();
-    let word = format!(in alloc; "{left}")?;
-    add_word(into, word.as_str())
-}
-
-fn add_read(alloc: Global, r: &mut BitReader, word: &str, into: &mut String) -> Result<(), Bad> {
+fn add_read(r: &mut BitReader, word: &str, said: &mut Said) -> Result<(), Bad> {
     let (name, count) = read_of(word)?;
     match name {
-        "bit" => add_bit(r, into),
-        "bits" => add_bits(alloc, r, count, into),
-        "block" => add_block(r, count, into),
-        "block-bits" => add_block_bits(alloc, r, count, into),
+        "bits" => add_bits(r, count, said),
+        "block" => add_block(r, count, said),
+        "block-bits" => add_block_bits(r, count, said),
         "skip" => skip(r, count),
-        "peek" => add_number(alloc, into, i128::from(r.peek())),
-        "place" => add_place(alloc, r, into),
-        "left" => add_left(alloc, r, into),
-        "whole" => add_number(alloc, into, r.bytes_left() as i128),
-        "align" => {
-            r.align();
-            Ok(())
-        }
-        _ => Err(Bad::NoRow),
+        _ => add_uncounted(r, name, said),
     }
+}
+
+// A read that needs no number of bits.
+fn add_uncounted(r: &mut BitReader, name: &str, said: &mut Said) -> Result<(), Bad> {
+    match name {
+        "bit" => add_bit(r, said),
+        "peek" => said.word(r.peek()),
+        "place" => said.word(r.place()),
+        "left" => said.word(r.bits_left()),
+        "whole" => said.word(r.bytes_left()),
+        "align" => r.align(),
+        _ => return Err(Bad::NoRow),
+    }
+    Ok(())
 }
 
 /// What reads of bits answer, one after another.
-pub(crate) fn read(alloc: Global, parts: &[NamedBytes], given: &str) -> Result<String, Bad> {
+pub(crate) fn read(parts: &[NamedBytes], given: &str, said: &mut Said) -> Result<(), Bad> {
     let (bytes, reads) = parted(given)?;
-    let bytes = bytes_of(alloc, parts, bytes)?;
+    let bytes = bytes_of(said.alloc(), parts, bytes)?;
     let mut r = BitReader::new(bytes.as_slice());
-    let mut all = String::new(alloc);
     for word in reads.split_whitespace() {
-        add_read(alloc, &mut r, word, &mut all)?;
+        add_read(&mut r, word, said)?;
     }
-    Ok(all)
+    Ok(())
 }
 
-fn add_block_read(
-    alloc: Global,
-    block: &mut Block,
-    word: &str,
-    into: &mut String,
-) -> Result<(), Bad> {
+fn add_block_read(block: &mut Block, word: &str, said: &mut Said) -> Result<(), Bad> {
     let (name, count) = read_of(word)?;
     match name {
-        "bit" => add_word(into, if block.bit() { "1" } else { "0" }),
-        "peek" => add_number(alloc, into, i128::from(block.peek())),
-        "twelve" => add_number(alloc, into, i128::from(block.peek_twelve())),
-        "skip" => {
-            block.skip(count);
-            Ok(())
-        }
-        _ => Err(Bad::NoRow),
+        "bit" => said.word(u8::from(block.bit())),
+        "peek" => said.word(block.peek()),
+        "twelve" => said.word(block.peek_twelve()),
+        "skip" => block.skip(count),
+        _ => return Err(Bad::NoRow),
     }
+    Ok(())
+}
+
+fn add_block_reads(block: Block, reads: &str, said: &mut Said) -> Result<(), Bad> {
+    let mut block = block;
+    for word in reads.split_whitespace() {
+        add_block_read(&mut block, word, said)?;
+    }
+    Ok(())
 }
 
 /// What reads of a block's bits answer, one after another.
-pub(crate) fn read_block(alloc: Global, parts: &[NamedBytes], given: &str) -> Result<String, Bad> {
+pub(crate) fn read_block(parts: &[NamedBytes], given: &str, said: &mut Said) -> Result<(), Bad> {
     let (bytes, reads) = parted(given)?;
-    let bytes = bytes_of(alloc, parts, bytes)?;
+    let bytes = bytes_of(said.alloc(), parts, bytes)?;
     let mut r = BitReader::new(bytes.as_slice());
-    let Ok(mut block) = r.block(bytes.len()) else {
-        return Err(Bad::NoRow);
-    };
-    let mut all = String::new(alloc);
-    for word in reads.split_whitespace() {
-        add_block_read(alloc, &mut block, word, &mut all)?;
+    match r.block(bytes.len()) {
+        Ok(block) => add_block_reads(block, reads, said),
+        Err(_) => Err(Bad::NoRow),
     }
-    Ok(all)
 }
 
 fn write_bits(w: &mut BitWriter, number: u32, count: u32) -> Result<(), Bad> {
@@ -168,6 +154,10 @@ fn write_word(w: &mut BitWriter, word: &str) -> Result<(), Bad> {
         w.repeat(bit == "1", u64::from(natural(times)?))?;
         return Ok(());
     }
+    write_bit(w, word)
+}
+
+fn write_bit(w: &mut BitWriter, word: &str) -> Result<(), Bad> {
     match word {
         "0" => w.bit(false)?,
         "1" => w.bit(true)?,
@@ -179,13 +169,12 @@ fn write_word(w: &mut BitWriter, word: &str) -> Result<(), Bad> {
 }
 
 /// The bytes of bits that are written one after another, by a writer that has room for so many bytes.
-pub(crate) fn write(alloc: Global, given: &str) -> Result<String, Bad> {
+pub(crate) fn write(given: &str, said: &mut Said) -> Result<(), Bad> {
     let (room, writes) = parted(given)?;
-    let mut w = BitWriter::with_room(alloc, natural(room)? as usize)?;
+    let mut w = BitWriter::with_room(said.alloc(), natural(room)? as usize)?;
     for word in writes.split_whitespace() {
         write_word(&mut w, word)?;
     }
-    let mut all = String::new(alloc);
-    add_bytes(alloc, &mut all, w.finish().as_slice())?;
-    Ok(all)
+    said.bytes(w.finish().as_slice());
+    Ok(())
 }

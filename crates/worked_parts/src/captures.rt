@@ -3,7 +3,8 @@ ghost use Rattle.std.specs.Prelude.{◌≤◌, ◌<◌, ◌+◌, ◌^◌, ℕ, I
 ghost use Rattle.pcap_in.specs.Feeding.{IsReady};
 
 use crate::ports::fails;
-use crate::words::{add_bytes, add_number, add_word, bytes_of, natural, parted};
+use crate::said::Said;
+use crate::words::{bytes_of, natural, parted};
 use pcap_in::{
     CarriedFeed, Fed, Network, Payload, PcapFault, PcapReader, carried, next_payload, next_record,
 };
@@ -27,168 +28,168 @@ fn port(word: &str) -> Result<u16, Bad> {
     }
 }
 
-fn add_part(alloc: Global, part: Option<(usize, usize)>, into: &mut String) -> Result<(), Bad> {
+fn add_part(part: Option<(usize, usize)>, said: &mut Said) {
     match part {
-        Some((from, to)) => {
-            add_number(alloc, into, from as i128)?;
-            add_number(alloc, into, to as i128)
-        }
-        None => add_word(into, "none"),
+        Some((from, to)) => said.words(&[from, to]),
+        None => said.word("none"),
     }
 }
 
 // A network and a port.
-fn wanted(text: &str) -> Result<(Network, u16), Bad> {
+fn network_and_port(text: &str) -> Result<(Network, u16), Bad> {
     match text.trim().split_once(' ') {
         Some((first, second)) => Ok((network(first)?, port(second)?)),
         None => Err(Bad::NoRow),
     }
 }
 
-/// Where the payload begins and ends that a record carries.
-pub(crate) fn carried_by(
-    alloc: Global,
-    parts: &[NamedBytes],
-    given: &str,
-    into: &mut String,
-) -> Result<(), Bad> {
-    let (front, bytes) = parted(given)?;
-    let (network, port) = wanted(front)?;
-    let bytes = bytes_of(alloc, parts, bytes)?;
-    add_part(alloc, carried(network, bytes.as_slice(), port), into)
-}
-
-fn add_cuts(
-    alloc: Global,
+// A record, and which payload is wanted of it.
+#[derive(Drop)]
+struct Wanted {
     network: Network,
     port: u16,
-    bytes: &[u8],
-    into: &mut String,
-) -> Result<(), Bad> {
+    bytes: Vec<u8>,
+}
+
+fn wanted_of(alloc: Global, parts: &[NamedBytes], given: &str) -> Result<Wanted, Bad> {
+    let (front, bytes) = parted(given)?;
+    let (network, port) = network_and_port(front)?;
+    Ok(Wanted {
+        network,
+        port,
+        bytes: bytes_of(alloc, parts, bytes)?,
+    })
+}
+
+/// Where the payload begins and ends that a record carries.
+pub(crate) fn carried_by(parts: &[NamedBytes], given: &str, said: &mut Said) -> Result<(), Bad> {
+    let of = wanted_of(said.alloc(), parts, given)?;
+    add_part(carried(of.network, of.bytes.as_slice(), of.port), said);
+    Ok(())
+}
+
+fn add_cuts(of: &Wanted, said: &mut Said) {
+    let bytes = of.bytes.as_slice();
     for length in 0..=bytes.len() {
         let kept = bytes.get(..length).unwrap_or(bytes);
-        add_part(alloc, carried(network, kept, port), into)?;
+        add_part(carried(of.network, kept, of.port), said);
+    }
+}
+
+/// The same of the first 0, 1, 2, .. and all of the bytes.
+pub(crate) fn carried_cuts(parts: &[NamedBytes], given: &str, said: &mut Said) -> Result<(), Bad> {
+    add_cuts(&wanted_of(said.alloc(), parts, given)?, said);
+    Ok(())
+}
+
+fn add_fault(fault: PcapFault, said: &mut Said) -> Result<(), Bad> {
+    match fault {
+        PcapFault::Header { place } => write!(said, "header@{place} "),
+        PcapFault::Cut { place } => write!(said, "cut@{place} "),
+        PcapFault::Length { place } => write!(said, "length@{place} "),
+        PcapFault::ReadFault => said.word("read"),
+        PcapFault::NoMemory => return Err(Bad::NoMemory),
     }
     Ok(())
 }
 
-/// The same of the first 0, 1, 2, .. and all of the bytes.
-pub(crate) fn carried_cuts(
-    alloc: Global,
-    parts: &[NamedBytes],
-    given: &str,
-    into: &mut String,
-) -> Result<(), Bad> {
-    let (front, bytes) = parted(given)?;
-    let (network, port) = wanted(front)?;
-    let bytes = bytes_of(alloc, parts, bytes)?;
-    add_cuts(alloc, network, port, bytes.as_slice(), into)
+fn add_kept(kept: &[u8], said: &mut Said) {
+    said.word("kept");
+    said.bytes(kept);
 }
 
-fn add_fault(alloc: Global, fault: PcapFault, into: &mut String) -> Result<(), Bad> {
-    let word = match fault {
-        PcapFault::Header { place } => format!(in alloc; "header@{place}")?,
-        PcapFault::Cut { place } => format!(in alloc; "cut@{place}")?,
-        PcapFault::Length { place } => format!(in alloc; "length@{place}")?,
-        PcapFault::ReadFault => return add_word(into, "read"),
-        PcapFault::NoMemory => return Err(Bad::NoMemory),
-    };
-    add_word(into, word.as_str())
-}
-
-fn add_record<S: Source>(
-    alloc: Global,
-    reader: &mut PcapReader<S>,
-    into: &mut String,
-) -> Result<(), Bad>
+fn add_record<S: Source>(reader: &mut PcapReader<S>, said: &mut Said) -> Result<(), Bad>
     requires { reader.old.place < 2 ^ 62 }
     ensures { reader.new.place ≤ reader.old.place + 262184 }
 {
     match next_record(reader) {
-        Ok(Some(kept)) => {
-            add_word(into, "kept")?;
-            add_bytes(alloc, into, kept.as_slice())
-        }
-        Ok(None) => add_word(into, "end"),
-        Err(fault) => add_fault(alloc, fault, into),
-    }
-}
-
-/// What five reads of a record answer, where the reads of these numbers fail.
-pub(crate) fn records(
-    alloc: Global,
-    parts: &[NamedBytes],
-    given: &str,
-    into: &mut String,
-) -> Result<(), Bad> {
-    let (numbers, bytes) = parted(given)?;
-    let mut source = MemSource::new(bytes_of(alloc, parts, bytes)?, fails(alloc, numbers)?);
-    let mut reader = PcapReader::new(alloc, &mut source);
-    add_record(alloc, &mut reader, into)?;
-    add_record(alloc, &mut reader, into)?;
-    add_record(alloc, &mut reader, into)?;
-    add_record(alloc, &mut reader, into)?;
-    add_record(alloc, &mut reader, into)
-}
-
-fn add_first(alloc: Global, bytes: &[u8], into: &mut String) -> Result<(), Bad> {
-    let mut owned = Vec::new(alloc);
-    owned.extend_from_slice(bytes)?;
-    let mut source = MemSource::new(owned, Vec::new(alloc));
-    let mut reader = PcapReader::new(alloc, &mut source);
-    add_record(alloc, &mut reader, into)
-}
-
-/// What the first read answers of the first 0, 1, 2, .. and all of the bytes.
-pub(crate) fn record_cuts(
-    alloc: Global,
-    parts: &[NamedBytes],
-    given: &str,
-    into: &mut String,
-) -> Result<(), Bad> {
-    let (_, bytes) = parted(given)?;
-    let bytes = bytes_of(alloc, parts, bytes)?;
-    for length in 0..=bytes.len() {
-        add_first(alloc, bytes.get(..length).unwrap_or(bytes.as_slice()), into)?;
+        Ok(Some(kept)) => add_kept(kept.as_slice(), said),
+        Ok(None) => said.word("end"),
+        Err(fault) => return add_fault(fault, said),
     }
     Ok(())
 }
 
-fn add_payload(alloc: Global, payload: &Payload, into: &mut String) -> Result<(), Bad> {
-    add_word(into, "payload")?;
-    match payload.kept.get(payload.from..payload.to) {
-        Some(bytes) => add_bytes(alloc, into, bytes),
-        None => Err(Bad::NoRow),
-    }
+// A source of bytes, whose calls of these numbers fail.
+fn source(alloc: Global, parts: &[NamedBytes], given: &str) -> Result<MemSource, Bad> {
+    let (numbers, bytes) = parted(given)?;
+    let bytes = bytes_of(alloc, parts, bytes)?;
+    Ok(MemSource::new(bytes, fails(alloc, numbers)?))
 }
 
+/// What five reads of a record answer, where the reads of these numbers fail.
+pub(crate) fn records(parts: &[NamedBytes], given: &str, said: &mut Said) -> Result<(), Bad> {
+    let mut source = source(said.alloc(), parts, given)?;
+    let mut reader = PcapReader::new(said.alloc(), &mut source);
+    add_record(&mut reader, said)?;
+    add_record(&mut reader, said)?;
+    add_record(&mut reader, said)?;
+    add_record(&mut reader, said)?;
+    add_record(&mut reader, said)
+}
+
+fn add_first(bytes: &[u8], said: &mut Said) -> Result<(), Bad> {
+    let owned = Vec::from_slice(said.alloc(), bytes)?;
+    let mut source = MemSource::new(owned, Vec::new(said.alloc()));
+    let mut reader = PcapReader::new(said.alloc(), &mut source);
+    add_record(&mut reader, said)
+}
+
+/// What the first read answers of the first 0, 1, 2, .. and all of the bytes.
+pub(crate) fn record_cuts(parts: &[NamedBytes], given: &str, said: &mut Said) -> Result<(), Bad> {
+    let (_, bytes) = parted(given)?;
+    let bytes = bytes_of(said.alloc(), parts, bytes)?;
+    for length in 0..=bytes.len() {
+        add_first(bytes.get(..length).unwrap_or(bytes.as_slice()), said)?;
+    }
+    Ok(())
+}
+
+fn add_payload(payload: &Payload, said: &mut Said) -> Result<(), Bad> {
+    let Some(bytes) = payload.kept.get(payload.from..payload.to) else {
+        return Err(Bad::NoRow);
+    };
+    said.word("payload");
+    said.bytes(bytes);
+    Ok(())
+}
+
+fn add_answer(fed: &Fed, said: &mut Said) -> Result<(), Bad> {
+    match fed {
+        Fed::Payload(payload) => return add_payload(payload, said),
+        Fed::End => said.word("end"),
+        Fed::Limit => said.word("limit"),
+    }
+    Ok(())
+}
+
+// Whether there was no fault.
 fn add_fed<S: Source>(
-    alloc: Global,
     feed: &mut CarriedFeed,
     reader: &mut PcapReader<S>,
-    into: &mut String,
+    said: &mut Said,
 ) -> Result<bool, Bad>
     requires { IsReady 1 reader.old feed.old }
     ensures { (more : ℕ) → IsReady (more + 1) reader.old feed.old
         → IfOk result (λ goes_on. IsTrue goes_on → IsReady more reader.new feed.new) }
 {
     match next_payload(feed, reader) {
-        Ok(Fed::Payload(payload)) => add_payload(alloc, &payload, into)?,
-        Ok(Fed::End) => add_word(into, "end")?,
-        Ok(Fed::Limit) => add_word(into, "limit")?,
+        Ok(fed) => {
+            add_answer(&fed, said)?;
+            Ok(true)
+        }
         Err(fault) => {
-            add_fault(alloc, fault, into)?;
-            return Ok(false);
+            add_fault(fault, said)?;
+            Ok(false)
         }
     }
-    Ok(true)
 }
 
-fn add_counts(alloc: Global, feed: &CarriedFeed, into: &mut String) -> Result<(), Bad> {
-    add_word(into, "records")?;
-    add_number(alloc, into, i128::from(feed.records()))?;
-    add_word(into, "other")?;
-    add_number(alloc, into, i128::from(feed.other()))
+fn add_counts(feed: &CarriedFeed, said: &mut Said) {
+    said.word("records");
+    said.word(feed.records());
+    said.word("other");
+    said.word(feed.other());
 }
 
 // How often a feed is asked.
@@ -196,23 +197,30 @@ const TURNS: u32 = 5;
 
 // Asks a feed so often, or until a fault.
 fn add_all_fed<S: Source>(
-    alloc: Global,
     feed: &mut CarriedFeed,
     reader: &mut PcapReader<S>,
-    into: &mut String,
+    said: &mut Said,
 ) -> Result<(), Bad>
     requires { IsReady 5 reader.old feed.old }
 {
     for _turn in 0..TURNS {
-        if !add_fed(alloc, feed, reader, into)? {
+        if !add_fed(feed, reader, said)? {
             return Ok(());
         }
     }
     Ok(())
 }
 
+// What a feed is asked: a port, a number of records, and a source with the numbers of the reads that fail.
+#[derive(Drop)]
+struct Asked {
+    port: u16,
+    packets: u32,
+    source: MemSource,
+}
+
 // A port, a number of records, and the numbers of the reads that fail.
-fn asked(text: &str) -> Result<(u16, u32, &str), Bad> {
+fn front_of(text: &str) -> Result<(u16, u32, &str), Bad> {
     let Some((first, rest)) = text.trim().split_once(' ') else {
         return Err(Bad::NoRow);
     };
@@ -220,18 +228,23 @@ fn asked(text: &str) -> Result<(u16, u32, &str), Bad> {
     Ok((port(first)?, natural(second)?, numbers))
 }
 
-/// What a feed answers, and its counts.
-pub(crate) fn fed(
-    alloc: Global,
-    parts: &[NamedBytes],
-    given: &str,
-    into: &mut String,
-) -> Result<(), Bad> {
+fn asked_of(alloc: Global, parts: &[NamedBytes], given: &str) -> Result<Asked, Bad> {
     let (front, bytes) = parted(given)?;
-    let (port, packets, numbers) = asked(front)?;
-    let mut source = MemSource::new(bytes_of(alloc, parts, bytes)?, fails(alloc, numbers)?);
-    let mut reader = PcapReader::new(alloc, &mut source);
-    let mut feed = CarriedFeed::new(port, packets);
-    add_all_fed(alloc, &mut feed, &mut reader, into)?;
-    add_counts(alloc, &feed, into)
+    let (port, packets, numbers) = front_of(front)?;
+    let bytes = bytes_of(alloc, parts, bytes)?;
+    Ok(Asked {
+        port,
+        packets,
+        source: MemSource::new(bytes, fails(alloc, numbers)?),
+    })
+}
+
+/// What a feed answers, and its counts.
+pub(crate) fn fed(parts: &[NamedBytes], given: &str, said: &mut Said) -> Result<(), Bad> {
+    let mut of = asked_of(said.alloc(), parts, given)?;
+    let mut reader = PcapReader::new(said.alloc(), &mut of.source);
+    let mut feed = CarriedFeed::new(of.port, of.packets);
+    add_all_fed(&mut feed, &mut reader, said)?;
+    add_counts(&feed, said);
+    Ok(())
 }

@@ -1,9 +1,6 @@
 //! Rows of the codes of numbers.
-use crate::words::{
-    add_bytes, add_number, add_word, bytes_of, long_numbers, natural, number, parted,
-    short_numbers, text, text_of_short,
-};
-use std::alloc::Global;
+use crate::said::Said;
+use crate::words::{bytes_of, long_numbers, natural, number, parted, short_numbers};
 use vc_bits::{BitReader, BitWriter, Block};
 use vc_golomb::{
     UintRefusal, read_sint_bounded, read_sints, read_uint, sint_codes, write_behind_zeros,
@@ -11,67 +8,78 @@ use vc_golomb::{
 };
 use worked_common::{Bad, NamedBytes};
 
-fn finished(alloc: Global, w: BitWriter) -> Result<String, Bad> {
+// Ones up to a whole byte, and then what was written.
+fn add_finished(w: BitWriter, said: &mut Said) -> Result<(), Bad> {
     let mut w = w;
     w.align(true)?;
-    let mut all = String::new(alloc);
-    add_bytes(alloc, &mut all, w.finish().as_slice())?;
-    Ok(all)
+    said.bytes(w.finish().as_slice());
+    Ok(())
+}
+
+fn write_unsigned(w: &mut BitWriter, number: i64) -> Result<(), Bad> {
+    let size = number.unsigned_abs();
+    if number < 0 || size >= 1 << 62 {
+        return Err(Bad::NoRow);
+    }
+    write_uint(w, size)?;
+    Ok(())
 }
 
 /// The unsigned codes of numbers one after another, and ones up to a whole byte.
-pub(crate) fn unsigned(alloc: Global, given: &str) -> Result<String, Bad> {
-    let mut w = BitWriter::new(alloc);
-    for number in long_numbers(alloc, given)?.iter() {
-        let size = number.unsigned_abs();
-        if *number < 0 || size >= 1 << 62 {
-            return Err(Bad::NoRow);
-        }
-        write_uint(&mut w, size)?;
+pub(crate) fn unsigned(given: &str, said: &mut Said) -> Result<(), Bad> {
+    let mut w = BitWriter::new(said.alloc());
+    for number in long_numbers(said.alloc(), given)?.iter() {
+        write_unsigned(&mut w, *number)?;
     }
-    finished(alloc, w)
+    add_finished(w, said)
+}
+
+fn write_signed(w: &mut BitWriter, number: i64) -> Result<(), Bad> {
+    if number.unsigned_abs() >= 1 << 62 {
+        return Err(Bad::NoRow);
+    }
+    write_sint(w, number)?;
+    Ok(())
 }
 
 /// The signed codes of numbers one after another, and ones up to a whole byte.
-pub(crate) fn signed(alloc: Global, given: &str) -> Result<String, Bad> {
-    let mut w = BitWriter::new(alloc);
-    for number in long_numbers(alloc, given)?.iter() {
-        if number.unsigned_abs() >= 1 << 62 {
-            return Err(Bad::NoRow);
-        }
-        write_sint(&mut w, *number)?;
+pub(crate) fn signed(given: &str, said: &mut Said) -> Result<(), Bad> {
+    let mut w = BitWriter::new(said.alloc());
+    for number in long_numbers(said.alloc(), given)?.iter() {
+        write_signed(&mut w, *number)?;
     }
-    finished(alloc, w)
+    add_finished(w, said)
 }
 
 /// The same, written at once.
-pub(crate) fn signed_at_once(alloc: Global, given: &str) -> Result<String, Bad> {
-    let numbers = short_numbers(alloc, given)?;
+pub(crate) fn signed_at_once(given: &str, said: &mut Said) -> Result<(), Bad> {
+    let numbers = short_numbers(said.alloc(), given)?;
     if numbers.len() >= 1 << 60 {
         return Err(Bad::NoRow);
     }
-    let mut all = String::new(alloc);
-    add_bytes(
-        alloc,
-        &mut all,
-        sint_codes(alloc, numbers.as_slice())?.as_slice(),
-    )?;
-    Ok(all)
+    said.bytes(sint_codes(said.alloc(), numbers.as_slice())?.as_slice());
+    Ok(())
+}
+
+// How many zeros, and the number behind them.
+fn zeros_and_last(given: &str) -> Result<(u32, i64), Bad> {
+    let (zeros, last) = parted(given)?;
+    let zeros = natural(zeros)?;
+    match i64::try_from(number(last)?) {
+        Ok(last) => Ok((zeros, last)),
+        Err(_) => Err(Bad::NoRow),
+    }
 }
 
 /// So many codes of 0 and that of a number, and ones up to a whole byte.
-pub(crate) fn behind_zeros(alloc: Global, given: &str) -> Result<String, Bad> {
-    let (zeros, last) = parted(given)?;
-    let zeros = natural(zeros)?;
-    let Ok(last) = i64::try_from(number(last)?) else {
-        return Err(Bad::NoRow);
-    };
+pub(crate) fn behind_zeros(given: &str, said: &mut Said) -> Result<(), Bad> {
+    let (zeros, last) = zeros_and_last(given)?;
     if last.unsigned_abs() >= 1 << 62 {
         return Err(Bad::NoRow);
     }
-    let mut w = BitWriter::new(alloc);
+    let mut w = BitWriter::new(said.alloc());
     write_behind_zeros(&mut w, u64::from(zeros), last)?;
-    finished(alloc, w)
+    add_finished(w, said)
 }
 
 fn name_of(refusal: UintRefusal) -> &'static str {
@@ -81,29 +89,23 @@ fn name_of(refusal: UintRefusal) -> &'static str {
     }
 }
 
-fn add_unsigned(
-    alloc: Global,
-    r: &mut BitReader,
-    most: u32,
-    into: &mut String,
-) -> Result<bool, Bad> {
+fn add_unsigned(r: &mut BitReader, most: u32, said: &mut Said) -> bool {
     match read_uint(r, most) {
         Ok(number) => {
-            add_number(alloc, into, i128::from(number))?;
-            Ok(true)
+            said.word(number);
+            true
         }
         Err(refusal) => {
-            add_word(into, name_of(refusal))?;
-            Ok(false)
+            said.word(name_of(refusal));
+            false
         }
     }
 }
 
-fn read_all(alloc: Global, r: &mut BitReader, most: u32) -> Result<String, Bad> {
-    let mut all = String::new(alloc);
+fn add_all(r: &mut BitReader, most: u32, said: &mut Said) -> Result<(), Bad> {
     for _ in 0..100_000u32 {
-        if !add_unsigned(alloc, r, most, &mut all)? {
-            return Ok(all);
+        if !add_unsigned(r, most, said) {
+            return Ok(());
         }
     }
     Err(Bad::NoRow)
@@ -111,20 +113,15 @@ fn read_all(alloc: Global, r: &mut BitReader, most: u32) -> Result<String, Bad> 
 
 /// The numbers up to a greatest one that are read of bytes by their unsigned codes, why the next one isn't,
 /// and after how many bits.
-pub(crate) fn read_unsigned(
-    alloc: Global,
-    parts: &[NamedBytes],
-    given: &str,
-) -> Result<String, Bad> {
+pub(crate) fn read_unsigned(parts: &[NamedBytes], given: &str, said: &mut Said) -> Result<(), Bad> {
     let (most, bytes) = parted(given)?;
     let most = natural(most)?;
-    let bytes = bytes_of(alloc, parts, bytes)?;
+    let bytes = bytes_of(said.alloc(), parts, bytes)?;
     let mut r = BitReader::new(bytes.as_slice());
-    let mut all = read_all(alloc, &mut r, most)?;
-    let place = r.place();
-    let place = format!(in alloc; "at {place}")?;
-    add_word(&mut all, place.as_str())?;
-    Ok(all)
+    add_all(&mut r, most, said)?;
+    said.word("at");
+    said.word(r.place());
+    Ok(())
 }
 
 // How many numbers there are, and the greatest magnitude that they may have.
@@ -139,63 +136,56 @@ fn count_and_most(text: &str) -> Result<(u32, u64), Bad> {
     }
 }
 
-/// Adds so many numbers, up to a greatest magnitude, that are read of a block by their signed codes.
-pub(crate) fn add_signed(
-    alloc: Global,
-    block: &Block,
-    count: u32,
-    most: u64,
-    into: &mut String,
-) -> Result<(), Bad> {
+/// So many numbers, up to a greatest magnitude, that are read of a block by their signed codes.
+pub(crate) fn add_signed(block: &Block, count: u32, most: u64, said: &mut Said) -> Result<(), Bad> {
     if most > 1 << 62 {
         return Err(Bad::NoRow);
     }
     let mut block = block.copy();
     for _ in 0..count {
         match read_sint_bounded(&mut block, most) {
-            Ok(number) => add_number(alloc, into, i128::from(number))?,
-            Err(_) => add_word(into, "large")?,
+            Ok(number) => said.word(number),
+            Err(_) => said.word("large"),
         }
     }
     Ok(())
 }
 
 /// So many numbers, up to a greatest magnitude, that are read of a block by their signed codes.
-pub(crate) fn read_signed(alloc: Global, parts: &[NamedBytes], given: &str) -> Result<String, Bad> {
+pub(crate) fn read_signed(parts: &[NamedBytes], given: &str, said: &mut Said) -> Result<(), Bad> {
     let (front, bytes) = parted(given)?;
     let (count, most) = count_and_most(front)?;
-    let bytes = bytes_of(alloc, parts, bytes)?;
+    let bytes = bytes_of(said.alloc(), parts, bytes)?;
     let mut r = BitReader::new(bytes.as_slice());
-    let Ok(block) = r.block(bytes.len()) else {
-        return Err(Bad::NoRow);
-    };
-    let mut all = String::new(alloc);
-    add_signed(alloc, &block, count, most, &mut all)?;
-    Ok(all)
-}
-
-/// So many numbers, as a text, that are read of a block by their signed codes at once.
-pub(crate) fn signed_of(alloc: Global, block: &Block, count: u32) -> Result<String, Bad> {
-    let count = count as usize;
-    let mut out = vec![in alloc; 0i32; count + 8]?;
-    match read_sints(block, count, out.as_mut_slice()) {
-        Ok(_) => text_of_short(alloc, &out.as_slice()[..count]),
-        Err(_) => text(alloc, "large"),
+    match r.block(bytes.len()) {
+        Ok(block) => add_signed(&block, count, most, said),
+        Err(_) => Err(Bad::NoRow),
     }
 }
 
 /// So many numbers that are read of a block by their signed codes at once.
+pub(crate) fn add_at_once(block: &Block, count: u32, said: &mut Said) -> Result<(), Bad> {
+    let count = count as usize;
+    let mut out = vec![in said.alloc(); 0i32; count + 8]?;
+    match read_sints(block, count, out.as_mut_slice()) {
+        Ok(_) => said.words(&out.as_slice()[..count]),
+        Err(_) => said.word("large"),
+    }
+    Ok(())
+}
+
+/// So many numbers that are read of a block by their signed codes at once.
 pub(crate) fn read_signed_at_once(
-    alloc: Global,
     parts: &[NamedBytes],
     given: &str,
-) -> Result<String, Bad> {
+    said: &mut Said,
+) -> Result<(), Bad> {
     let (count, bytes) = parted(given)?;
     let count = natural(count)?;
-    let bytes = bytes_of(alloc, parts, bytes)?;
+    let bytes = bytes_of(said.alloc(), parts, bytes)?;
     let mut r = BitReader::new(bytes.as_slice());
-    let Ok(block) = r.block(bytes.len()) else {
-        return Err(Bad::NoRow);
-    };
-    signed_of(alloc, &block, count)
+    match r.block(bytes.len()) {
+        Ok(block) => add_at_once(&block, count, said),
+        Err(_) => Err(Bad::NoRow),
+    }
 }

@@ -3,7 +3,8 @@ ghost use Rattle.std.specs.Prelude.{IsTrue};
 ghost use Rattle.vc_types.specs.Planes.{planes_in};
 ghost use Rattle.field_pairs.specs.Sizes.{HasSizeOf, HaveEqualSizes, HaveHeightsUpTo, HaveEvenHeights};
 
-use crate::words::{add_samples, add_word, parted, samples, two};
+use crate::said::Said;
+use crate::words::{parted, samples, two};
 use field_pairs::{split, weave};
 use std::alloc::Global;
 use vc_types::Plane;
@@ -81,48 +82,63 @@ fn have_even_heights(planes: &[Plane; 3]) -> bool
     planes[0].height() % 2 == 0 && planes[1].height() % 2 == 0 && planes[2].height() % 2 == 0
 }
 
-fn add_planes(alloc: Global, planes: &[Plane; 3], into: &mut String) -> Result<(), Bad> {
+fn add_planes(planes: &[Plane; 3], said: &mut Said) {
     for plane in planes {
-        add_samples(alloc, into, plane.samples())?;
+        said.words(plane.samples());
     }
-    Ok(())
 }
 
-/// The frame of two fields, of which the earlier is the first.
-pub(crate) fn woven(alloc: Global, given: &str, into: &mut String) -> Result<(), Bad> {
+// Two fields, and which is first.
+#[derive(Drop)]
+struct Fields {
+    first: [Plane; 3],
+    second: [Plane; 3],
+    top_first: bool,
+}
+
+fn fields_of(alloc: Global, given: &str) -> Result<Fields, Bad> {
     let (front, both) = parted(given)?;
     let sizes = sizes_of(front)?;
     let (first, second) = parted(both)?;
-    let first = planes(alloc, &sizes, first)?;
-    let second = planes(alloc, &sizes, second)?;
+    Ok(Fields {
+        first: planes(alloc, &sizes, first)?,
+        second: planes(alloc, &sizes, second)?,
+        top_first: sizes.top_first,
+    })
+}
+
+/// The frame of two fields, of which the earlier is the first.
+pub(crate) fn woven(given: &str, said: &mut Said) -> Result<(), Bad> {
+    let Fields {
+        first,
+        second,
+        top_first,
+    } = fields_of(said.alloc(), given)?;
     if !have_equal_sizes(&first, &second) || !have_few_rows(&first) {
         return Err(Bad::NoRow);
     }
-    let frame = weave(alloc, first, second, sizes.top_first)?;
-    add_planes(alloc, &frame, into)
+    let frame = weave(said.alloc(), first, second, top_first)?;
+    add_planes(&frame, said);
+    Ok(())
 }
 
-fn add_split(
-    alloc: Global,
-    frame: &[Plane; 3],
-    top_first: bool,
-    into: &mut String,
-) -> Result<(), Bad>
+fn add_split(frame: &[Plane; 3], top_first: bool, said: &mut Said) -> Result<(), Bad>
     requires { HaveEvenHeights (planes_in frame.now) }
 {
-    let (first, second) = split(alloc, frame, top_first)?;
-    add_planes(alloc, &first, into)?;
-    add_word(into, ":")?;
-    add_planes(alloc, &second, into)
+    let (first, second) = split(said.alloc(), frame, top_first)?;
+    add_planes(&first, said);
+    said.word(":");
+    add_planes(&second, said);
+    Ok(())
 }
 
 /// The two fields of a frame, the earlier first.
-pub(crate) fn parts(alloc: Global, given: &str, into: &mut String) -> Result<(), Bad> {
+pub(crate) fn parts(given: &str, said: &mut Said) -> Result<(), Bad> {
     let (front, frame) = parted(given)?;
     let sizes = sizes_of(front)?;
-    let frame = planes(alloc, &sizes, frame)?;
+    let frame = planes(said.alloc(), &sizes, frame)?;
     if !have_even_heights(&frame) {
         return Err(Bad::NoRow);
     }
-    add_split(alloc, &frame, sizes.top_first, into)
+    add_split(&frame, sizes.top_first, said)
 }

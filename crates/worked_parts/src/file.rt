@@ -1,5 +1,6 @@
 use crate::kinds::came;
-use crate::words::{add_pieces, spread};
+use crate::said::Said;
+use crate::words::spread;
 use std::alloc::Global;
 use worked_common::{Bad, NamedBytes, put};
 
@@ -9,7 +10,7 @@ struct Read {
     parts: Vec<NamedBytes>,
     rows: u64,
     differ: u64,
-    said: String,
+    said: Said,
 }
 
 fn add_part(alloc: Global, parts: &mut Vec<NamedBytes>, text: &str) -> Result<(), Bad> {
@@ -41,15 +42,12 @@ fn try_row(alloc: Global, read: &mut Read, kind: &str, rest: &str) -> Result<(),
         return Ok(());
     }
     read.differ = read.differ.saturating_add(1);
-    let came = [
-        kind,
-        " ",
-        given,
-        "= ",
-        came.as_str(),
-        ", which isn't what is wanted\n",
-    ];
-    add_pieces(&mut read.said, &came)
+    let came = came.as_str();
+    write!(
+        read.said,
+        "{kind} {given}= {came}, which isn't what is wanted\n"
+    );
+    Ok(())
 }
 
 fn take_line(alloc: Global, read: &mut Read, line: &str) -> Result<(), Bad> {
@@ -68,20 +66,18 @@ pub(crate) fn run_file(alloc: Global, name: &str, text: &str) -> Result<String, 
         parts: Vec::new(alloc),
         rows: 0,
         differ: 0,
-        said: String::new(alloc),
+        said: Said::new(alloc),
     };
     for (place, line) in text.lines().enumerate() {
         if take_line(alloc, &mut read, line).is_err() {
-            let said = read.said.as_str();
-            let said = format!(in alloc;
-                "{said}{name}: can't try this line, after {place} others: {line}"
-            )?;
-            return Ok(said);
+            write!(
+                read.said,
+                "{name}: can't try this line, after {place} others: {line}"
+            );
+            return read.said.into_text();
         }
     }
-    let rows = read.rows;
-    let differ = read.differ;
-    let said = read.said.as_str();
-    let said = format!(in alloc; "{said}{name}: {rows} rows, {differ} differ")?;
-    Ok(said)
+    let (rows, differ) = (read.rows, read.differ);
+    write!(read.said, "{name}: {rows} rows, {differ} differ");
+    read.said.into_text()
 }

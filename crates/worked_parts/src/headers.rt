@@ -5,8 +5,8 @@ ghost use Rattle.vc_types.specs.SequenceHeader.{sequence_of};
 ghost use Rattle.vc_types.specs.Video.{excursion_fits, range_of};
 
 use crate::named::field;
-use crate::words::{add_bytes, bytes_of, natural, parted};
-use std::alloc::Global;
+use crate::said::Said;
+use crate::words::{bytes_of, natural, parted};
 use vc_seqhdr::{read_header, read_header_of, write_header};
 use vc_types::{Header, HeaderRefusal, Sampling, Shape, SignalRange, dimensions_fit};
 use worked_common::{Bad, NamedBytes};
@@ -19,99 +19,120 @@ fn sampling_word(sampling: Sampling) -> &'static str {
     }
 }
 
-fn add_range(alloc: Global, into: &mut String, range: &SignalRange) -> Result<(), Bad> {
-    let (luma, colour) = (range.luma_offset, range.colour_offset);
-    let (of_luma, of_colour) = (range.luma_excursion, range.colour_excursion);
-    let text = format!(in alloc; "range {luma} {of_luma} {colour} {of_colour} ")?;
-    into.push_str(text.as_str())?;
-    Ok(())
+fn add_versions(header: &Header, said: &mut Said) {
+    let (major, minor, level, base) = (header.major, header.minor, header.level, header.base);
+    write!(
+        said,
+        "major {major} minor {minor} level {level} base {base} "
+    );
 }
 
-fn text_of(alloc: Global, header: &Header, used: usize) -> Result<String, Bad> {
-    let (major, minor, level, base) = (header.major, header.minor, header.level, header.base);
+fn add_size(header: &Header, said: &mut Said) {
     let (width, height) = (header.width, header.height);
-    let sampling = sampling_word(header.sampling);
-    let scan = if header.interlaced {
+    write!(said, "width {width} height {height} ");
+    said.word(sampling_word(header.sampling));
+}
+
+fn scan_word(header: &Header) -> &'static str {
+    if header.interlaced {
         "interlaced"
     } else {
         "progressive"
-    };
-    let first = if header.top_first {
+    }
+}
+
+fn first_word(header: &Header) -> &'static str {
+    if header.top_first {
         "top-first"
     } else {
         "bottom-first"
-    };
-    let coding = if header.fields { "fields" } else { "frames" };
-    let version = format!(in alloc; "major {major} minor {minor} level {level} base {base} ")?;
-    let picture = format!(in alloc; "width {width} height {height} {sampling} {scan} {first} ")?;
-    let rest = format!(in alloc; "{coding} takes {used}")?;
-    let mut all = version;
-    all.push_str(picture.as_str())?;
-    add_range(alloc, &mut all, &header.range)?;
-    all.push_str(rest.as_str())?;
-    Ok(all)
+    }
 }
 
-fn text_of_read(
-    alloc: Global,
-    read: Result<(Header, usize), HeaderRefusal>,
-) -> Result<String, Bad> {
+fn add_range(range: &SignalRange, said: &mut Said) {
+    let (luma, colour) = (range.luma_offset, range.colour_offset);
+    let (of_luma, of_colour) = (range.luma_excursion, range.colour_excursion);
+    write!(said, "range {luma} {of_luma} {colour} {of_colour} ");
+}
+
+fn coding_word(header: &Header) -> &'static str {
+    if header.fields { "fields" } else { "frames" }
+}
+
+fn add_header(header: &Header, used: usize, said: &mut Said) {
+    add_versions(header, said);
+    add_size(header, said);
+    said.word(scan_word(header));
+    said.word(first_word(header));
+    add_range(&header.range, said);
+    said.word(coding_word(header));
+    write!(said, "takes {used} ");
+}
+
+fn add_read(read: Result<(Header, usize), HeaderRefusal>, said: &mut Said) {
     match read {
-        Ok((header, used)) => text_of(alloc, &header, used),
-        Err(refusal) => Ok(format!(in alloc; "{refusal:?}")?),
+        Ok((header, used)) => add_header(&header, used, said),
+        Err(refusal) => said.shown(refusal),
     }
 }
 
 /// The sequence header at the front of bytes, and how many of them it takes.
-pub(crate) fn header(alloc: Global, parts: &[NamedBytes], given: &str) -> Result<String, Bad> {
-    let bytes = bytes_of(alloc, parts, given)?;
-    text_of_read(alloc, read_header(bytes.as_slice()))
+pub(crate) fn header(parts: &[NamedBytes], given: &str, said: &mut Said) -> Result<(), Bad> {
+    let bytes = bytes_of(said.alloc(), parts, given)?;
+    add_read(read_header(bytes.as_slice()), said);
+    Ok(())
+}
+
+fn profile_of(word: &str) -> Result<u8, Bad> {
+    match u8::try_from(natural(word)?) {
+        Ok(profile) => Ok(profile),
+        Err(_) => Err(Bad::NoRow),
+    }
 }
 
 /// The same of the profile that stands before a colon.
-pub(crate) fn header_of(alloc: Global, parts: &[NamedBytes], given: &str) -> Result<String, Bad> {
+pub(crate) fn header_of(parts: &[NamedBytes], given: &str, said: &mut Said) -> Result<(), Bad> {
     let (profile, given) = parted(given)?;
-    let Ok(profile) = u8::try_from(natural(profile)?) else {
-        return Err(Bad::NoRow);
-    };
-    let bytes = bytes_of(alloc, parts, given)?;
-    text_of_read(alloc, read_header_of(profile, bytes.as_slice()))
+    let profile = profile_of(profile)?;
+    let bytes = bytes_of(said.alloc(), parts, given)?;
+    add_read(read_header_of(profile, bytes.as_slice()), said);
+    Ok(())
+}
+
+fn add_cuts(bytes: &[u8], said: &mut Said) {
+    for length in 0..=bytes.len() {
+        match read_header(bytes.get(..length).unwrap_or(bytes)) {
+            Ok(_) => said.word("read"),
+            Err(refusal) => said.shown(refusal),
+        }
+    }
 }
 
 /// What is read of the first 0, 1, 2, .. and all of some bytes.
-pub(crate) fn header_cuts(alloc: Global, parts: &[NamedBytes], given: &str) -> Result<String, Bad> {
-    let bytes = bytes_of(alloc, parts, given)?;
-    let bytes = bytes.as_slice();
-    let mut all = String::new(alloc);
-    for length in 0..=bytes.len() {
-        let word = match read_header(bytes.get(..length).unwrap_or(bytes)) {
-            Ok(_) => String::from_str(alloc, "read ")?,
-            Err(refusal) => format!(in alloc; "{refusal:?} ")?,
-        };
-        all.push_str(word.as_str())?;
-    }
-    Ok(all)
+pub(crate) fn header_cuts(parts: &[NamedBytes], given: &str, said: &mut Said) -> Result<(), Bad> {
+    let bytes = bytes_of(said.alloc(), parts, given)?;
+    add_cuts(bytes.as_slice(), said);
+    Ok(())
 }
 
 /// A shape: of luma and of the colour planes the width, the height, and the bits of a sample.
-pub(crate) fn shape_text(alloc: Global, shape: &Shape) -> Result<String, Bad> {
+pub(crate) fn add_shape(shape: &Shape, said: &mut Said) {
     let (width, height, depth) = (shape.luma_width, shape.luma_height, shape.luma_depth);
     let (half, low, bits) = (shape.colour_width, shape.colour_height, shape.colour_depth);
-    let all = format!(in alloc; "luma {width} {height} {depth} colour {half} {low} {bits}")?;
-    Ok(all)
+    write!(
+        said,
+        "luma {width} {height} {depth} colour {half} {low} {bits} "
+    );
 }
 
 /// The planes of a picture, by the sequence header at the front of bytes.
-pub(crate) fn header_planes(
-    alloc: Global,
-    parts: &[NamedBytes],
-    given: &str,
-) -> Result<String, Bad> {
-    let bytes = bytes_of(alloc, parts, given)?;
+pub(crate) fn header_planes(parts: &[NamedBytes], given: &str, said: &mut Said) -> Result<(), Bad> {
+    let bytes = bytes_of(said.alloc(), parts, given)?;
     match read_header(bytes.as_slice()) {
-        Ok((header, _)) => shape_text(alloc, &header.shape()),
-        Err(_) => Err(Bad::NoRow),
+        Ok((header, _)) => add_shape(&header.shape(), said),
+        Err(_) => return Err(Bad::NoRow),
     }
+    Ok(())
 }
 
 fn sampling_of(number: u32) -> Result<Sampling, Bad> {
@@ -159,37 +180,55 @@ fn preset_range(index: u32) -> SignalRange
     }
 }
 
-// The header that a sender writes: width, height, sampling, fields, top-first and range.
-fn sent_header(given: &str) -> Result<Header, Bad>
+// What is said of the header that a sender writes.
+#[derive(Clone, Copy)]
+struct Sent {
+    width: u32,
+    height: u32,
+    sampling: Sampling,
+    fields: bool,
+    top_first: bool,
+    range: u32,
+}
+
+// Width, height, sampling, fields, top-first and range.
+fn sent_of(given: &str) -> Result<Sent, Bad> {
+    Ok(Sent {
+        width: field(given, "width")?,
+        height: field(given, "height")?,
+        sampling: sampling_of(field(given, "sampling")?)?,
+        fields: field(given, "fields")? == 1,
+        top_first: field(given, "top-first")? == 1,
+        range: field(given, "range")?,
+    })
+}
+
+// The header that a sender writes.
+fn sent_header(sent: &Sent) -> Result<Header, Bad>
     ensures { IfOk result (λ h. IsEncoderHeader (sequence_of h)) }
 {
-    let (width, height) = (field(given, "width")?, field(given, "height")?);
-    let sampling = sampling_of(field(given, "sampling")?)?;
-    let fields = field(given, "fields")? == 1;
-    let top_first = field(given, "top-first")? == 1;
-    let range = field(given, "range")?;
-    if range < 1 || range > 4 || !dimensions_fit(width, height, sampling, fields) {
+    let (width, height, sampling, fields) = (sent.width, sent.height, sent.sampling, sent.fields);
+    if sent.range < 1 || sent.range > 4 || !dimensions_fit(width, height, sampling, fields) {
         return Err(Bad::NoRow);
     }
     Ok(Header {
         major: 3,
         minor: 0,
         level: 0,
-        base: if top_first { 14 } else { 0 },
+        base: if sent.top_first { 14 } else { 0 },
         width,
         height,
         sampling,
         interlaced: fields,
-        top_first,
-        range: preset_range(range),
+        top_first: sent.top_first,
+        range: preset_range(sent.range),
         fields,
     })
 }
 
 /// The bytes of a header that a sender writes.
-pub(crate) fn header_written(alloc: Global, given: &str) -> Result<String, Bad> {
-    let header = sent_header(given)?;
-    let mut all = String::new(alloc);
-    add_bytes(alloc, &mut all, write_header(alloc, &header)?.as_slice())?;
-    Ok(all)
+pub(crate) fn header_written(given: &str, said: &mut Said) -> Result<(), Bad> {
+    let header = sent_header(&sent_of(given)?)?;
+    said.bytes(write_header(said.alloc(), &header)?.as_slice());
+    Ok(())
 }

@@ -1,3 +1,4 @@
+use crate::said::Said;
 use crate::words::spread;
 use crate::{
     bits, captures, codes, datagrams, fields, headers, lines, low_delay, narrow_planes, parameters,
@@ -14,242 +15,211 @@ pub(crate) fn came(
     kind: &str,
     given: &str,
 ) -> Result<String, Bad> {
-    let came = came_of_bits(alloc, parts, kind, given)?;
-    spread(alloc, parts, came.as_str())
+    let mut said = Said::new(alloc);
+    add_of_bits(parts, kind, given, &mut said)?;
+    spread(alloc, parts, said.into_text()?.as_str())
 }
 
-fn came_of_bits(
-    alloc: Global,
-    parts: &[NamedBytes],
-    kind: &str,
-    given: &str,
-) -> Result<String, Bad> {
+fn add_of_bits(parts: &[NamedBytes], kind: &str, given: &str, said: &mut Said) -> Result<(), Bad> {
     match kind {
-        "read-bits" => bits::read(alloc, parts, given),
-        "read-block" => bits::read_block(alloc, parts, given),
-        "write-bits" => bits::write(alloc, given),
-        _ => came_of_codes(alloc, parts, kind, given),
+        "read-bits" => bits::read(parts, given, said),
+        "read-block" => bits::read_block(parts, given, said),
+        "write-bits" => bits::write(given, said),
+        _ => add_of_codes(parts, kind, given, said),
     }
 }
 
-fn came_of_codes(
-    alloc: Global,
-    parts: &[NamedBytes],
-    kind: &str,
-    given: &str,
-) -> Result<String, Bad> {
+fn add_of_codes(parts: &[NamedBytes], kind: &str, given: &str, said: &mut Said) -> Result<(), Bad> {
     match kind {
-        "unsigned" => codes::unsigned(alloc, given),
-        "signed" => codes::signed(alloc, given),
-        "signed-at-once" => codes::signed_at_once(alloc, given),
-        "behind-zeros" => codes::behind_zeros(alloc, given),
-        "read-unsigned" => codes::read_unsigned(alloc, parts, given),
-        "read-signed" => codes::read_signed(alloc, parts, given),
-        "read-signed-at-once" => codes::read_signed_at_once(alloc, parts, given),
-        _ => came_of_headers(alloc, parts, kind, given),
+        "unsigned" => codes::unsigned(given, said),
+        "signed" => codes::signed(given, said),
+        "signed-at-once" => codes::signed_at_once(given, said),
+        "behind-zeros" => codes::behind_zeros(given, said),
+        "read-unsigned" => codes::read_unsigned(parts, given, said),
+        "read-signed" => codes::read_signed(parts, given, said),
+        "read-signed-at-once" => codes::read_signed_at_once(parts, given, said),
+        _ => add_of_headers(parts, kind, given, said),
     }
 }
 
-fn came_of_headers(
-    alloc: Global,
+fn add_of_headers(
     parts: &[NamedBytes],
     kind: &str,
     given: &str,
-) -> Result<String, Bad> {
+    said: &mut Said,
+) -> Result<(), Bad> {
     match kind {
-        "header" => headers::header(alloc, parts, given),
-        "header-of" => headers::header_of(alloc, parts, given),
-        "header-cuts" => headers::header_cuts(alloc, parts, given),
-        "header-written" => headers::header_written(alloc, given),
-        "header-planes" => headers::header_planes(alloc, parts, given),
-        _ => came_of_others(alloc, parts, kind, given),
+        "header" => headers::header(parts, given, said),
+        "header-of" => headers::header_of(parts, given, said),
+        "header-cuts" => headers::header_cuts(parts, given, said),
+        "header-written" => headers::header_written(given, said),
+        "header-planes" => headers::header_planes(parts, given, said),
+        _ => add_of_parameters(parts, kind, given, said),
     }
-}
-
-fn came_of_others(
-    alloc: Global,
-    parts: &[NamedBytes],
-    kind: &str,
-    given: &str,
-) -> Result<String, Bad> {
-    let mut all = String::new(alloc);
-    add_of_parameters(alloc, parts, kind, given, &mut all)?;
-    Ok(all)
 }
 
 fn add_of_parameters(
-    alloc: Global,
     parts: &[NamedBytes],
     kind: &str,
     given: &str,
-    into: &mut String,
+    said: &mut Said,
 ) -> Result<(), Bad> {
     match kind {
-        "parameters" => parameters::parameters(alloc, parts, given, into),
-        "parameters-cuts" => parameters::parameters_cuts(alloc, parts, given, into),
-        "parameters-written" => parameters::parameters_written(alloc, parts, given, into),
-        "plan-planes" => parameters::plan_planes(alloc, parts, given, into),
-        "low-parameters" => low_delay::low_parameters(alloc, parts, given, into),
-        "low-picture" => low_delay::low_picture(alloc, parts, given, into),
-        _ => add_of_datagrams(alloc, parts, kind, given, into),
+        "parameters" => parameters::parameters(parts, given, said),
+        "parameters-cuts" => parameters::parameters_cuts(parts, given, said),
+        "parameters-written" => parameters::parameters_written(parts, given, said),
+        "plan-planes" => parameters::plan_planes(parts, given, said),
+        "low-parameters" => low_delay::low_parameters(parts, given, said),
+        "low-picture" => low_delay::low_picture(parts, given, said),
+        _ => add_of_datagrams(parts, kind, given, said),
     }
 }
 
 fn add_of_datagrams(
-    alloc: Global,
     parts: &[NamedBytes],
     kind: &str,
     given: &str,
-    into: &mut String,
+    said: &mut Said,
 ) -> Result<(), Bad> {
     match kind {
-        "rtp" => datagrams::rtp(alloc, parts, given, into),
-        "rtp-cuts" => datagrams::rtp_cuts(alloc, parts, given, into),
-        "rtp-written" => datagrams::rtp_written(alloc, given, into),
-        "payload" => datagrams::payload(alloc, parts, given, into),
-        "payload-cuts" => datagrams::payload_cuts(alloc, parts, given, into),
-        "payload-written" => datagrams::payload_written(alloc, parts, given, into),
-        _ => add_of_slices(alloc, parts, kind, given, into),
+        "rtp" => datagrams::rtp(parts, given, said),
+        "rtp-cuts" => datagrams::rtp_cuts(parts, given, said),
+        "rtp-written" => datagrams::rtp_written(given, said),
+        "payload" => datagrams::payload(parts, given, said),
+        "payload-cuts" => datagrams::payload_cuts(parts, given, said),
+        "payload-written" => datagrams::payload_written(parts, given, said),
+        _ => add_of_slices(parts, kind, given, said),
     }
 }
 
 fn add_of_slices(
-    alloc: Global,
     parts: &[NamedBytes],
     kind: &str,
     given: &str,
-    into: &mut String,
+    said: &mut Said,
 ) -> Result<(), Bad> {
     match kind {
-        "cut" => slices::cut_slice(alloc, parts, given, into),
-        "cut-cuts" => slices::cut_cuts(alloc, parts, given, into),
-        "slice" => slices::slice(alloc, parts, given, into),
-        "run" => runs::run(alloc, parts, given, into),
-        "slice-kept" => slices::slice_kept(alloc, parts, given, into),
-        "slice-written" => slices::slice_written(alloc, parts, given, into),
-        "slice-lengths" => slices::slice_lengths(alloc, parts, given, into),
-        _ => add_of_ports(alloc, parts, kind, given, into),
+        "cut" => slices::cut_slice(parts, given, said),
+        "cut-cuts" => slices::cut_cuts(parts, given, said),
+        "slice" => slices::slice(parts, given, said),
+        "run" => runs::run(parts, given, said),
+        "slice-kept" => slices::slice_kept(parts, given, said),
+        "slice-written" => slices::slice_written(parts, given, said),
+        "slice-lengths" => slices::slice_lengths(parts, given, said),
+        _ => add_of_ports(parts, kind, given, said),
     }
 }
 
-fn add_of_ports(
-    alloc: Global,
-    parts: &[NamedBytes],
-    kind: &str,
-    given: &str,
-    into: &mut String,
-) -> Result<(), Bad> {
+fn add_of_ports(parts: &[NamedBytes], kind: &str, given: &str, said: &mut Said) -> Result<(), Bad> {
     match kind {
-        "memory-source" => ports::memory_source(alloc, parts, given, into),
-        "plain-source" => ports::plain_source(alloc, parts, given, into),
-        "filled" => ports::filled(alloc, parts, given, into),
-        "memory-sink" => ports::memory_sink(alloc, parts, given, into),
-        "plain-sink" => ports::plain_sink(alloc, parts, given, into),
-        "written" => ports::written(alloc, parts, given, into),
-        "memory-wire" => wires::memory_wire(alloc, parts, given, into),
-        "plain-wire" => wires::plain_wire(alloc, parts, given, into),
-        _ => add_of_reports(alloc, parts, kind, given, into),
+        "memory-source" => ports::memory_source(parts, given, said),
+        "plain-source" => ports::plain_source(parts, given, said),
+        "filled" => ports::filled(parts, given, said),
+        "memory-sink" => ports::memory_sink(parts, given, said),
+        "plain-sink" => ports::plain_sink(parts, given, said),
+        "written" => ports::written(parts, given, said),
+        "memory-wire" => wires::memory_wire(parts, given, said),
+        "plain-wire" => wires::plain_wire(parts, given, said),
+        _ => add_of_reports(parts, kind, given, said),
     }
 }
 
 fn add_of_reports(
-    alloc: Global,
     parts: &[NamedBytes],
     kind: &str,
     given: &str,
-    into: &mut String,
+    said: &mut Said,
 ) -> Result<(), Bad> {
     match kind {
-        "track" => reports::track(alloc, given, into),
-        "track-steps" => reports::track_steps(alloc, given, into),
-        "rr-written" => reports::rr_written(alloc, parts, given, into),
-        "sr-written" => reports::sr_written(alloc, parts, given, into),
-        "compound" => reports::compound(alloc, parts, given, into),
-        "compound-cuts" => reports::compound_cuts(alloc, parts, given, into),
-        _ => add_of_captures(alloc, parts, kind, given, into),
+        "track" => reports::track(given, said),
+        "track-steps" => reports::track_steps(given, said),
+        "rr-written" => reports::rr_written(parts, given, said),
+        "sr-written" => reports::sr_written(parts, given, said),
+        "compound" => reports::compound(parts, given, said),
+        "compound-cuts" => reports::compound_cuts(parts, given, said),
+        _ => add_of_captures(parts, kind, given, said),
     }
 }
 
 fn add_of_captures(
-    alloc: Global,
     parts: &[NamedBytes],
     kind: &str,
     given: &str,
-    into: &mut String,
+    said: &mut Said,
 ) -> Result<(), Bad> {
     match kind {
-        "carried" => captures::carried_by(alloc, parts, given, into),
-        "carried-cuts" => captures::carried_cuts(alloc, parts, given, into),
-        "records" => captures::records(alloc, parts, given, into),
-        "record-cuts" => captures::record_cuts(alloc, parts, given, into),
-        "fed" => captures::fed(alloc, parts, given, into),
-        _ => add_of_quantisers(alloc, kind, given, into),
+        "carried" => captures::carried_by(parts, given, said),
+        "carried-cuts" => captures::carried_cuts(parts, given, said),
+        "records" => captures::records(parts, given, said),
+        "record-cuts" => captures::record_cuts(parts, given, said),
+        "fed" => captures::fed(parts, given, said),
+        _ => add_of_quantisers(kind, given, said),
     }
 }
 
-fn add_of_quantisers(alloc: Global, kind: &str, given: &str, into: &mut String) -> Result<(), Bad> {
+fn add_of_quantisers(kind: &str, given: &str, said: &mut Said) -> Result<(), Bad> {
     match kind {
-        "factors" => quantisers::factors(alloc, given, into),
-        "offsets" => quantisers::offsets(alloc, given, into),
-        "dequantised" => quantisers::dequantised(alloc, given, into),
-        "dequantised-at-once" => quantisers::dequantised_at_once(alloc, given, into),
-        "quantised" => quantisers::quantised(alloc, given, into),
-        "quantised-at-once" => quantisers::quantised_at_once(alloc, given, into),
-        "last-indices" => quantisers::last_indices(alloc, given, into),
-        "default-matrix" => quantisers::matrix(alloc, given, into),
-        _ => add_of_sizes(alloc, kind, given, into),
+        "factors" => quantisers::factors(given, said),
+        "offsets" => quantisers::offsets(given, said),
+        "dequantised" => quantisers::dequantised(given, said),
+        "dequantised-at-once" => quantisers::dequantised_at_once(given, said),
+        "quantised" => quantisers::quantised(given, said),
+        "quantised-at-once" => quantisers::quantised_at_once(given, said),
+        "last-indices" => quantisers::last_indices(given, said),
+        "default-matrix" => quantisers::matrix(given, said),
+        _ => add_of_sizes(kind, given, said),
     }
 }
 
-fn add_of_sizes(alloc: Global, kind: &str, given: &str, into: &mut String) -> Result<(), Bad> {
+fn add_of_sizes(kind: &str, given: &str, said: &mut Said) -> Result<(), Bad> {
     match kind {
-        "woven" => fields::woven(alloc, given, into),
-        "split" => fields::parts(alloc, given, into),
-        "dimensions" => sizes::dimensions(given, into),
-        "slices" => sizes::slices(given, into),
-        "padded" => sizes::side(alloc, given, into),
-        "picture-height" => sizes::height(alloc, given, into),
-        "shape" => sizes::shape(alloc, given, into),
-        _ => add_of_lines(alloc, kind, given, into),
+        "woven" => fields::woven(given, said),
+        "split" => fields::parts(given, said),
+        "dimensions" => sizes::dimensions(given, said),
+        "slices" => sizes::slices(given, said),
+        "padded" => sizes::side(given, said),
+        "picture-height" => sizes::height(given, said),
+        "shape" => sizes::shape(given, said),
+        _ => add_of_lines(kind, given, said),
     }
 }
 
-fn add_of_lines(alloc: Global, kind: &str, given: &str, into: &mut String) -> Result<(), Bad> {
+fn add_of_lines(kind: &str, given: &str, said: &mut Said) -> Result<(), Bad> {
     match kind {
-        "synthesised" => lines::synthesised(alloc, given, into),
-        "analysed" => lines::analysed(alloc, given, into),
-        "synthesised-sums" => lines::synthesised_sums(alloc, given, into),
-        "analysed-sums" => lines::analysed_sums(alloc, given, into),
-        "comes-back" => lines::back(alloc, given, into),
-        "columns-synthesised" => lines::columns_synthesised(alloc, given, into),
-        "columns-analysed" => lines::columns_analysed(alloc, given, into),
-        "synthesis-bound" => lines::synthesis_bound(alloc, given, into),
-        "analysis-bound" => lines::analysis_bound(alloc, given, into),
-        _ => add_of_places(alloc, kind, given, into),
+        "synthesised" => lines::synthesised(given, said),
+        "analysed" => lines::analysed(given, said),
+        "synthesised-sums" => lines::synthesised_sums(given, said),
+        "analysed-sums" => lines::analysed_sums(given, said),
+        "comes-back" => lines::back(given, said),
+        "columns-synthesised" => lines::columns_synthesised(given, said),
+        "columns-analysed" => lines::columns_analysed(given, said),
+        "synthesis-bound" => lines::synthesis_bound(given, said),
+        "analysis-bound" => lines::analysis_bound(given, said),
+        _ => add_of_places(kind, given, said),
     }
 }
 
-fn add_of_places(alloc: Global, kind: &str, given: &str, into: &mut String) -> Result<(), Bad> {
+fn add_of_places(kind: &str, given: &str, said: &mut Said) -> Result<(), Bad> {
     match kind {
-        "padding" => places::padding(alloc, given, into),
-        "subbands" => places::subbands(alloc, given, into),
-        "slice-rectangles" => places::rectangles(alloc, given, into),
-        "slice-rectangles-at-once" => places::rectangles_at_once(alloc, given, into),
-        "coefficient-counts" => places::lengths(alloc, given, into),
-        "coefficient-places" => places::places(alloc, given, into),
-        _ => add_of_planes(alloc, kind, given, into),
+        "padding" => places::padding(given, said),
+        "subbands" => places::subbands(given, said),
+        "slice-rectangles" => places::rectangles(given, said),
+        "slice-rectangles-at-once" => places::rectangles_at_once(given, said),
+        "coefficient-counts" => places::lengths(given, said),
+        "coefficient-places" => places::places(given, said),
+        _ => add_of_planes(kind, given, said),
     }
 }
 
-fn add_of_planes(alloc: Global, kind: &str, given: &str, into: &mut String) -> Result<(), Bad> {
+fn add_of_planes(kind: &str, given: &str, said: &mut Said) -> Result<(), Bad> {
     match kind {
-        "inverse" => planes::inverses(alloc, given, into),
-        "inverse-in-64-bits" => planes::long_inverses(alloc, given, into),
-        "inverse-sum" => planes::inverse_sum(alloc, given, into),
-        "forward" => planes::forwards(alloc, given, into),
-        "output" => narrow_planes::outputs(alloc, given, into),
-        "output-of-extremes" => narrow_planes::extreme_outputs(alloc, given, into),
-        "forward-of-extremes" => narrow_planes::extreme_forwards(alloc, given, into),
+        "inverse" => planes::inverses(given, said),
+        "inverse-in-64-bits" => planes::long_inverses(given, said),
+        "inverse-sum" => planes::inverse_sum(given, said),
+        "forward" => planes::forwards(given, said),
+        "output" => narrow_planes::outputs(given, said),
+        "output-of-extremes" => narrow_planes::extreme_outputs(given, said),
+        "forward-of-extremes" => narrow_planes::extreme_forwards(given, said),
         _ => Err(Bad::NoRow),
     }
 }

@@ -1,9 +1,8 @@
 //! Rows of lines of samples, synthesised and analysed.
 ghost use Rattle.std.specs.Prelude.{◌≡◌, ◌≤◌, ◌*◌, ◌%◌, ◌^◌, ◌<◌, All, IfOk, IsTrue, length, unsigned_abs};
 
-use crate::words::{
-    add_number, add_numbers, add_word, natural, number, numbers, parted, range, weighed,
-};
+use crate::said::Said;
+use crate::words::{natural, number, numbers, parted, range, weighed};
 use std::alloc::Global;
 use vc_lift::{
     analyse, analyse_columns, narrow_analysis_bound, narrow_bound, synth, synth_columns,
@@ -41,22 +40,31 @@ fn change_line(wavelet: u8, line: &mut [i128], undo: bool) -> Result<(), Bad>
     Ok(())
 }
 
-fn changed(alloc: Global, given: &str, undo: bool, into: &mut String) -> Result<(), Bad> {
-    let (word, line) = parted(given)?;
+// A wavelet, and what stands behind it.
+fn of_wavelet(given: &str) -> Result<(u8, &str), Bad>
+    ensures { IfOk result (λ x. x.0 ≤ 6) }
+{
+    let (word, rest) = parted(given)?;
     let wavelet = wavelet_of(word)?;
-    let mut line = numbers(alloc, line)?;
+    Ok((wavelet, rest))
+}
+
+fn changed(given: &str, undo: bool, said: &mut Said) -> Result<(), Bad> {
+    let (wavelet, line) = of_wavelet(given)?;
+    let mut line = numbers(said.alloc(), line)?;
     change_line(wavelet, line.as_mut_slice(), undo)?;
-    add_numbers(alloc, into, line.as_slice())
+    said.words(line.as_slice());
+    Ok(())
 }
 
 /// What a wavelet synthesises of a line.
-pub(crate) fn synthesised(alloc: Global, given: &str, into: &mut String) -> Result<(), Bad> {
-    changed(alloc, given, false, into)
+pub(crate) fn synthesised(given: &str, said: &mut Said) -> Result<(), Bad> {
+    changed(given, false, said)
 }
 
 /// What a wavelet analyses a line to.
-pub(crate) fn analysed(alloc: Global, given: &str, into: &mut String) -> Result<(), Bad> {
-    changed(alloc, given, true, into)
+pub(crate) fn analysed(given: &str, said: &mut Said) -> Result<(), Bad> {
+    changed(given, true, said)
 }
 
 /// Cells whose place i, counted from 0, has (i * i + 7 * i) mod 61 - 30.
@@ -78,13 +86,20 @@ fn sum_of_changed(alloc: Global, wavelet: u8, length: u32, undo: bool) -> Result
     Ok(weighed(line.as_slice()))
 }
 
-fn sums(alloc: Global, given: &str, undo: bool, into: &mut String) -> Result<(), Bad> {
-    let (word, lengths) = parted(given)?;
-    let wavelet = wavelet_of(word)?;
+// A wavelet, and the first and the last of lengths.
+fn of_lengths(given: &str) -> Result<(u8, u32, u32), Bad>
+    ensures { IfOk result (λ x. x.0 ≤ 6) }
+{
+    let (wavelet, lengths) = of_wavelet(given)?;
     let (first, last) = range(lengths)?;
+    Ok((wavelet, first, last))
+}
+
+fn sums(given: &str, undo: bool, said: &mut Said) -> Result<(), Bad> {
+    let (wavelet, first, last) = of_lengths(given)?;
     for length in first..=last {
         if length % 2 == 0 {
-            add_number(alloc, into, sum_of_changed(alloc, wavelet, length, undo)?)?;
+            said.word(sum_of_changed(said.alloc(), wavelet, length, undo)?);
         }
     }
     Ok(())
@@ -92,13 +107,13 @@ fn sums(alloc: Global, given: &str, undo: bool, into: &mut String) -> Result<(),
 
 /// For each even length of a range, the sum of each sample times its place that is synthesised of a line of
 /// such cells.
-pub(crate) fn synthesised_sums(alloc: Global, given: &str, into: &mut String) -> Result<(), Bad> {
-    sums(alloc, given, false, into)
+pub(crate) fn synthesised_sums(given: &str, said: &mut Said) -> Result<(), Bad> {
+    sums(given, false, said)
 }
 
 /// The same that such a line is analysed to.
-pub(crate) fn analysed_sums(alloc: Global, given: &str, into: &mut String) -> Result<(), Bad> {
-    sums(alloc, given, true, into)
+pub(crate) fn analysed_sums(given: &str, said: &mut Said) -> Result<(), Bad> {
+    sums(given, true, said)
 }
 
 fn comes_back(alloc: Global, wavelet: u8, length: u32) -> Result<bool, Bad>
@@ -111,17 +126,23 @@ fn comes_back(alloc: Global, wavelet: u8, length: u32) -> Result<bool, Bad>
     Ok(line.as_slice() == changed.as_slice())
 }
 
-/// Whether a line of each even length of a range comes back where it is analysed and then synthesised.
-pub(crate) fn back(alloc: Global, given: &str, into: &mut String) -> Result<(), Bad> {
-    let (word, lengths) = parted(given)?;
-    let wavelet = wavelet_of(word)?;
-    let (first, last) = range(lengths)?;
+fn all_come_back(alloc: Global, wavelet: u8, first: u32, last: u32) -> Result<bool, Bad>
+    requires { wavelet ≤ 6 }
+{
     for length in first..=last {
         if length % 2 == 0 && !comes_back(alloc, wavelet, length)? {
-            return add_word(into, "another");
+            return Ok(false);
         }
     }
-    add_word(into, "same")
+    Ok(true)
+}
+
+/// Whether a line of each even length of a range comes back where it is analysed and then synthesised.
+pub(crate) fn back(given: &str, said: &mut Said) -> Result<(), Bad> {
+    let (wavelet, first, last) = of_lengths(given)?;
+    let all = all_come_back(said.alloc(), wavelet, first, last)?;
+    said.word(if all { "same" } else { "another" });
+    Ok(())
 }
 
 fn change_columns(wavelet: u8, cells: &mut [i128], width: usize, undo: bool) -> Result<(), Bad>
@@ -142,30 +163,35 @@ fn change_columns(wavelet: u8, cells: &mut [i128], width: usize, undo: bool) -> 
     Ok(())
 }
 
-fn columns_changed(alloc: Global, given: &str, undo: bool, into: &mut String) -> Result<(), Bad> {
-    let (front, cells) = parted(given)?;
-    let Some((word, width)) = front.trim().split_once(' ') else {
+// A wavelet, and how many columns stand side by side.
+fn wavelet_and_width(text: &str) -> Result<(u8, usize), Bad>
+    ensures { IfOk result (λ x. x.0 ≤ 6) }
+{
+    let Some((word, width)) = text.trim().split_once(' ') else {
         return Err(Bad::NoRow);
     };
     let wavelet = wavelet_of(word)?;
     let width = natural(width)? as usize;
-    let mut cells = numbers(alloc, cells)?;
+    Ok((wavelet, width))
+}
+
+fn columns_changed(given: &str, undo: bool, said: &mut Said) -> Result<(), Bad> {
+    let (front, cells) = parted(given)?;
+    let (wavelet, width) = wavelet_and_width(front)?;
+    let mut cells = numbers(said.alloc(), cells)?;
     change_columns(wavelet, cells.as_mut_slice(), width, undo)?;
-    add_numbers(alloc, into, cells.as_slice())
+    said.words(cells.as_slice());
+    Ok(())
 }
 
 /// What a wavelet synthesises of columns that stand side by side, so many in a row.
-pub(crate) fn columns_synthesised(
-    alloc: Global,
-    given: &str,
-    into: &mut String,
-) -> Result<(), Bad> {
-    columns_changed(alloc, given, false, into)
+pub(crate) fn columns_synthesised(given: &str, said: &mut Said) -> Result<(), Bad> {
+    columns_changed(given, false, said)
 }
 
 /// What a wavelet analyses such columns to.
-pub(crate) fn columns_analysed(alloc: Global, given: &str, into: &mut String) -> Result<(), Bad> {
-    columns_changed(alloc, given, true, into)
+pub(crate) fn columns_analysed(given: &str, said: &mut Said) -> Result<(), Bad> {
+    columns_changed(given, true, said)
 }
 
 fn bound(wavelet: u8, most: i128, undo: bool) -> Result<Option<u64>, Bad>
@@ -184,21 +210,21 @@ fn bound(wavelet: u8, most: i128, undo: bool) -> Result<Option<u64>, Bad>
     }
 }
 
-fn bounds(alloc: Global, given: &str, undo: bool, into: &mut String) -> Result<(), Bad> {
-    let (word, most) = parted(given)?;
-    let wavelet = wavelet_of(word)?;
+fn bounds(given: &str, undo: bool, said: &mut Said) -> Result<(), Bad> {
+    let (wavelet, most) = of_wavelet(given)?;
     match bound(wavelet, number(most)?, undo)? {
-        Some(after) => add_number(alloc, into, i128::from(after)),
-        None => add_word(into, "none"),
+        Some(after) => said.word(after),
+        None => said.word("none"),
     }
+    Ok(())
 }
 
 /// A bound on the samples that are synthesised in 32 bits, from one before that.
-pub(crate) fn synthesis_bound(alloc: Global, given: &str, into: &mut String) -> Result<(), Bad> {
-    bounds(alloc, given, false, into)
+pub(crate) fn synthesis_bound(given: &str, said: &mut Said) -> Result<(), Bad> {
+    bounds(given, false, said)
 }
 
 /// The same of samples that are analysed.
-pub(crate) fn analysis_bound(alloc: Global, given: &str, into: &mut String) -> Result<(), Bad> {
-    bounds(alloc, given, true, into)
+pub(crate) fn analysis_bound(given: &str, said: &mut Said) -> Result<(), Bad> {
+    bounds(given, true, said)
 }

@@ -1,7 +1,8 @@
 //! Rows of low-delay pictures: their transform parameters, which stand behind a sequence header of their
 //! profile, and their planes.
-use crate::parameters::{add_plan, add_refusal};
-use crate::words::{add_named, add_samples, add_word, bytes_of, parted};
+use crate::parameters::add_plan;
+use crate::said::Said;
+use crate::words::{bytes_of, parted};
 use std::alloc::Global;
 use vc_lowdelay::{LowPlan, LowRefusal, ParamsRefusal, decode_low, read_low_params};
 use vc_seqhdr::read_header_of;
@@ -30,26 +31,22 @@ fn low_plan_read(
     Ok(read_low_params(&header, rest))
 }
 
-fn add_low_plan(alloc: Global, p: &LowPlan, used: usize, into: &mut String) -> Result<(), Bad> {
-    add_plan(alloc, &p.plan, used, into)?;
-    add_named(
-        alloc,
-        into,
-        &[("numerator", p.numerator), ("denominator", p.denominator)],
-    )
+fn add_low_plan(p: &LowPlan, used: usize, said: &mut Said) {
+    add_plan(&p.plan, used, said);
+    said.named(&[("numerator", p.numerator), ("denominator", p.denominator)]);
 }
 
 /// The transform parameters behind a sequence header, and how many bytes they take.
 pub(crate) fn low_parameters(
-    alloc: Global,
     parts: &[NamedBytes],
     given: &str,
-    into: &mut String,
+    said: &mut Said,
 ) -> Result<(), Bad> {
-    match low_plan_read(alloc, parts, given)? {
-        Ok((p, used)) => add_low_plan(alloc, &p, used, into),
-        Err(refusal) => add_refusal(alloc, refusal, into),
+    match low_plan_read(said.alloc(), parts, given)? {
+        Ok((p, used)) => add_low_plan(&p, used, said),
+        Err(refusal) => said.shown(refusal),
     }
+    Ok(())
 }
 
 fn low_plan_of(alloc: Global, parts: &[NamedBytes], given: &str) -> Result<LowPlan, Bad> {
@@ -59,36 +56,32 @@ fn low_plan_of(alloc: Global, parts: &[NamedBytes], given: &str) -> Result<LowPl
     }
 }
 
-fn add_plane(alloc: Global, name: &str, plane: &Plane, into: &mut String) -> Result<(), Bad> {
-    add_word(into, name)?;
-    add_samples(alloc, into, plane.samples())
+fn add_plane(name: &str, plane: &Plane, said: &mut Said) {
+    said.word(name);
+    said.words(plane.samples());
 }
 
-fn add_planes(alloc: Global, planes: &[Plane; 3], into: &mut String) -> Result<(), Bad> {
-    add_plane(alloc, "y", &planes[0], into)?;
-    add_plane(alloc, "c1", &planes[1], into)?;
-    add_plane(alloc, "c2", &planes[2], into)
+fn add_planes(planes: &[Plane; 3], said: &mut Said) {
+    add_plane("y", &planes[0], said);
+    add_plane("c1", &planes[1], said);
+    add_plane("c2", &planes[2], said);
 }
 
-fn add_low_refusal(alloc: Global, refusal: LowRefusal, into: &mut String) -> Result<(), Bad> {
-    let word = format!(in alloc; "{refusal:?}")?;
-    add_word(into, word.as_str())
+// The planes that bytes are decoded to, or why they are refused, where there was memory.
+fn add_decoded(p: &LowPlan, bytes: &[u8], said: &mut Said) -> Result<(), Bad> {
+    match decode_low(said.alloc(), p, bytes) {
+        Ok(planes) => add_planes(&planes, said),
+        Err(LowRefusal::NoMemory) => return Err(Bad::NoMemory),
+        Err(refusal) => said.shown(refusal),
+    }
+    Ok(())
 }
 
 /// The samples of a low-delay picture, or why it has none: a sequence header and parameters : the bytes of
 /// its slices.
-pub(crate) fn low_picture(
-    alloc: Global,
-    parts: &[NamedBytes],
-    given: &str,
-    into: &mut String,
-) -> Result<(), Bad> {
+pub(crate) fn low_picture(parts: &[NamedBytes], given: &str, said: &mut Said) -> Result<(), Bad> {
     let (plan, bytes) = parted(given)?;
-    let p = low_plan_of(alloc, parts, plan)?;
-    let bytes = bytes_of(alloc, parts, bytes)?;
-    match decode_low(alloc, &p, bytes.as_slice()) {
-        Ok(planes) => add_planes(alloc, &planes, into),
-        Err(LowRefusal::NoMemory) => Err(Bad::NoMemory),
-        Err(refusal) => add_low_refusal(alloc, refusal, into),
-    }
+    let p = low_plan_of(said.alloc(), parts, plan)?;
+    let bytes = bytes_of(said.alloc(), parts, bytes)?;
+    add_decoded(&p, bytes.as_slice(), said)
 }

@@ -21,6 +21,7 @@ mod ports;
 mod quantisers;
 mod reports;
 mod runs;
+mod said;
 mod sizes;
 mod slices;
 mod wires;

@@ -4,7 +4,8 @@ ghost use Rattle.vc_types.specs.Subbands.{plane_width, plane_height, plane_depth
 
 use crate::planes::{format_of, is_alike, plane_of};
 use crate::plans::{PlannedPlane, planned};
-use crate::words::{add_number, add_samples, add_word, natural, short_numbers, weighed};
+use crate::said::Said;
+use crate::words::{natural, short_numbers, weighed};
 use std::alloc::Global;
 use vc_geometry::padded;
 use vc_types::Plane;
@@ -35,13 +36,14 @@ fn put_out(alloc: Global, of: &PlannedPlane, nested: &[i32]) -> Result<Option<Ve
 }
 
 /// The samples of coefficients, clipped, in 32 bits, or that these aren't enough.
-pub(crate) fn outputs(alloc: Global, given: &str, into: &mut String) -> Result<(), Bad> {
-    let (planned, cells) = planned(alloc, given)?;
-    let nested = short_numbers(alloc, cells)?;
-    match put_out(alloc, &planned, nested.as_slice())? {
-        Some(made) => add_samples(alloc, into, made.as_slice()),
-        None => add_word(into, "wide"),
+pub(crate) fn outputs(given: &str, said: &mut Said) -> Result<(), Bad> {
+    let (planned, cells) = planned(said.alloc(), given)?;
+    let nested = short_numbers(said.alloc(), cells)?;
+    match put_out(said.alloc(), &planned, nested.as_slice())? {
+        Some(made) => said.words(made.as_slice()),
+        None => said.word("wide"),
     }
+    Ok(())
 }
 
 // The next of the numbers that say which sign, or which end, comes.
@@ -62,14 +64,6 @@ fn extreme_cells(alloc: Global, count: u32, most: i32) -> Result<Vec<i32>, Bad> 
         })?;
     }
     Ok(cells)
-}
-
-fn add_sum(alloc: Global, samples: &[u16], into: &mut String) -> Result<(), Bad> {
-    let mut wide = Vec::new(alloc);
-    for sample in samples {
-        wide.push(i128::from(*sample))?;
-    }
-    add_number(alloc, into, weighed(wide.as_slice()))
 }
 
 fn cell_at(cells: &[i32], columns: usize, x: usize, row: usize) -> Result<i32, Bad> {
@@ -93,32 +87,30 @@ fn nested(alloc: Global, of: &PlannedPlane, cells: &[i32]) -> Result<Vec<i32>, B
     Ok(nested)
 }
 
+// The coefficients that are all so large, whose rows are taken in turn.
+fn extremes(alloc: Global, of: &PlannedPlane, most: i32) -> Result<Vec<i32>, Bad> {
+    let (width, height) = padded(&of.plan, of.component);
+    let turned = extreme_cells(alloc, width * height, most)?;
+    nested(alloc, of, turned.as_slice())
+}
+
 /// The sum of each sample times its place where all coefficients, whose rows are taken in turn, are so
 /// large, or that 32 bits aren't enough.
-pub(crate) fn extreme_outputs(alloc: Global, given: &str, into: &mut String) -> Result<(), Bad> {
-    let (planned, most) = planned(alloc, given)?;
+pub(crate) fn extreme_outputs(given: &str, said: &mut Said) -> Result<(), Bad> {
+    let (planned, most) = planned(said.alloc(), given)?;
     let Ok(most) = i32::try_from(natural(most)?) else {
         return Err(Bad::NoRow);
     };
-    let (width, height) = padded(&planned.plan, planned.component);
-    let turned = extreme_cells(alloc, width * height, most)?;
-    let cells = nested(alloc, &planned, turned.as_slice())?;
-    match put_out(alloc, &planned, cells.as_slice())? {
-        Some(made) => add_sum(alloc, made.as_slice(), into),
-        None => add_word(into, "wide"),
+    let cells = extremes(said.alloc(), &planned, most)?;
+    match put_out(said.alloc(), &planned, cells.as_slice())? {
+        Some(made) => said.word(weighed(made.as_slice())),
+        None => said.word("wide"),
     }
-}
-
-fn widened(alloc: Global, cells: &[i32]) -> Result<Vec<i128>, Bad> {
-    let mut wide = Vec::new(alloc);
-    for cell in cells {
-        wide.push(i128::from(*cell))?;
-    }
-    Ok(wide)
+    Ok(())
 }
 
 // The coefficients of a plane row by row in nested subbands, if 32 bits are enough.
-fn parted_plane(alloc: Global, of: &PlannedPlane, plane: &Plane) -> Result<Option<Vec<i128>>, Bad>
+fn parted_plane(alloc: Global, of: &PlannedPlane, plane: &Plane) -> Result<Option<Vec<i32>>, Bad>
     requires width { plane.now.width ≡ plane_width of.now.plan.shape of.now.component }
     requires height { plane.now.height ≡ plane_height of.now.plan.shape of.now.component }
     requires samples { All
@@ -141,8 +133,7 @@ fn parted_plane(alloc: Global, of: &PlannedPlane, plane: &Plane) -> Result<Optio
         cells.as_mut_slice(),
         room.as_mut_slice(),
     );
-    let nested = nested(alloc, of, cells.as_slice())?;
-    Ok(Some(widened(alloc, nested.as_slice())?))
+    Ok(Some(nested(alloc, of, cells.as_slice())?))
 }
 
 // So many samples, which are 0 or the greatest, as they come.
@@ -158,14 +149,15 @@ fn extreme_samples(alloc: Global, count: usize, most: u16) -> Result<Vec<u16>, B
 
 /// The sum of each coefficient times its place where the samples are as far apart as they may be, or that
 /// 32 bits aren't enough.
-pub(crate) fn extreme_forwards(alloc: Global, given: &str, into: &mut String) -> Result<(), Bad> {
-    let (planned, _) = planned(alloc, given)?;
+pub(crate) fn extreme_forwards(given: &str, said: &mut Said) -> Result<(), Bad> {
+    let (planned, _) = planned(said.alloc(), given)?;
     let format = format_of(&planned.plan, planned.component);
     let most = u16::MAX >> (16 - format.depth);
-    let extreme = extreme_samples(alloc, format.columns * format.rows, most)?;
+    let extreme = extreme_samples(said.alloc(), format.columns * format.rows, most)?;
     let plane = plane_of(&planned, extreme)?;
-    match parted_plane(alloc, &planned, &plane)? {
-        Some(cells) => add_number(alloc, into, weighed(cells.as_slice())),
-        None => add_word(into, "wide"),
+    match parted_plane(said.alloc(), &planned, &plane)? {
+        Some(cells) => said.word(weighed(cells.as_slice())),
+        None => said.word("wide"),
     }
+    Ok(())
 }

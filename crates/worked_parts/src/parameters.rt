@@ -1,6 +1,7 @@
 //! Rows of transform parameters, which stand behind a sequence header.
-use crate::headers::shape_text;
-use crate::words::{add_bytes, add_named, add_number, add_word, bytes_of, natural, parted};
+use crate::headers::add_shape;
+use crate::said::Said;
+use crate::words::{bytes_of, natural, parted};
 use std::alloc::Global;
 use vc_params::{ParamsRefusal, read_params, write_params};
 use vc_seqhdr::read_header;
@@ -38,103 +39,74 @@ pub(crate) fn plan_of(alloc: Global, parts: &[NamedBytes], given: &str) -> Resul
 }
 
 /// What is read of transform parameters.
-pub(crate) fn add_plan(
-    alloc: Global,
-    plan: &Plan,
-    used: usize,
-    into: &mut String,
-) -> Result<(), Bad> {
-    add_word(into, "wavelet")?;
-    add_number(alloc, into, i128::from(plan.wavelet))?;
-    add_number(alloc, into, i128::from(plan.wavelet_ho))?;
-    add_word(into, "depth")?;
-    add_number(alloc, into, i128::from(plan.depth))?;
-    add_number(alloc, into, i128::from(plan.depth_ho))?;
-    add_word(into, "slices")?;
-    add_number(alloc, into, i128::from(plan.slices_x))?;
-    add_number(alloc, into, i128::from(plan.slices_y))?;
-    add_named(
-        alloc,
-        into,
-        &[("prefix", plan.prefix), ("scaler", plan.scaler)],
-    )?;
-    add_word(into, "matrix")?;
-    for value in plan.matrix {
-        add_number(alloc, into, i128::from(value))?;
-    }
-    add_word(into, "takes")?;
-    add_number(alloc, into, used as i128)
-}
-
-/// Why they are refused.
-pub(crate) fn add_refusal(
-    alloc: Global,
-    refusal: ParamsRefusal,
-    into: &mut String,
-) -> Result<(), Bad> {
-    let word = format!(in alloc; "{refusal:?}")?;
-    add_word(into, word.as_str())
+pub(crate) fn add_plan(plan: &Plan, used: usize, said: &mut Said) {
+    said.word("wavelet");
+    said.words(&[plan.wavelet, plan.wavelet_ho]);
+    said.word("depth");
+    said.words(&[plan.depth, plan.depth_ho]);
+    said.word("slices");
+    said.words(&[plan.slices_x, plan.slices_y]);
+    said.named(&[("prefix", plan.prefix), ("scaler", plan.scaler)]);
+    said.word("matrix");
+    said.words(&plan.matrix);
+    said.word("takes");
+    said.word(used);
 }
 
 /// The transform parameters behind a sequence header, and how many bytes they take.
-pub(crate) fn parameters(
-    alloc: Global,
-    parts: &[NamedBytes],
-    given: &str,
-    into: &mut String,
-) -> Result<(), Bad> {
-    match plan_read(alloc, parts, given)? {
-        Ok((plan, used)) => add_plan(alloc, &plan, used, into),
-        Err(refusal) => add_refusal(alloc, refusal, into),
-    }
-}
-
-fn add_cuts(alloc: Global, header: &Header, rest: &[u8], into: &mut String) -> Result<(), Bad> {
-    for length in 0..=rest.len() {
-        match read_params(header, rest.get(..length).unwrap_or(rest)) {
-            Ok(_) => add_word(into, "read")?,
-            Err(refusal) => add_refusal(alloc, refusal, into)?,
-        }
+pub(crate) fn parameters(parts: &[NamedBytes], given: &str, said: &mut Said) -> Result<(), Bad> {
+    match plan_read(said.alloc(), parts, given)? {
+        Ok((plan, used)) => add_plan(&plan, used, said),
+        Err(refusal) => said.shown(refusal),
     }
     Ok(())
 }
 
+fn add_cuts(header: &Header, rest: &[u8], said: &mut Said) {
+    for length in 0..=rest.len() {
+        match read_params(header, rest.get(..length).unwrap_or(rest)) {
+            Ok(_) => said.word("read"),
+            Err(refusal) => said.shown(refusal),
+        }
+    }
+}
+
 /// What is read of the first 0, 1, 2, .. and all of the bytes behind a sequence header.
 pub(crate) fn parameters_cuts(
-    alloc: Global,
     parts: &[NamedBytes],
     given: &str,
-    into: &mut String,
+    said: &mut Said,
 ) -> Result<(), Bad> {
-    let bytes = bytes_of(alloc, parts, given)?;
+    let bytes = bytes_of(said.alloc(), parts, given)?;
     let (header, rest) = behind_header(bytes.as_slice())?;
-    add_cuts(alloc, &header, rest, into)
+    add_cuts(&header, rest, said);
+    Ok(())
 }
 
 /// The planes of a plan's picture.
-pub(crate) fn plan_planes(
-    alloc: Global,
-    parts: &[NamedBytes],
-    given: &str,
-    into: &mut String,
-) -> Result<(), Bad> {
-    let text = shape_text(alloc, &plan_of(alloc, parts, given)?.shape)?;
-    add_word(into, text.as_str())
+pub(crate) fn plan_planes(parts: &[NamedBytes], given: &str, said: &mut Said) -> Result<(), Bad> {
+    let plan = plan_of(said.alloc(), parts, given)?;
+    add_shape(&plan.shape, said);
+    Ok(())
+}
+
+// A plan, and the major version of a stream.
+fn versioned(alloc: Global, parts: &[NamedBytes], given: &str) -> Result<(u32, Plan), Bad> {
+    let (major, plan) = parted(given)?;
+    Ok((natural(major)?, plan_of(alloc, parts, plan)?))
 }
 
 /// The bytes that are written of a plan, in a stream of a major version that stands before it.
 pub(crate) fn parameters_written(
-    alloc: Global,
     parts: &[NamedBytes],
     given: &str,
-    into: &mut String,
+    said: &mut Said,
 ) -> Result<(), Bad> {
-    let (major, plan) = parted(given)?;
-    let major = natural(major)?;
-    let plan = plan_of(alloc, parts, plan)?;
+    let (major, plan) = versioned(said.alloc(), parts, given)?;
     let is_symmetric = plan.wavelet_ho == plan.wavelet && plan.depth_ho == 0;
     if !is_symmetric && major != 3 {
         return Err(Bad::NoRow);
     }
-    add_bytes(alloc, into, write_params(alloc, major, &plan)?.as_slice())
+    said.bytes(write_params(said.alloc(), major, &plan)?.as_slice());
+    Ok(())
 }

@@ -4,35 +4,34 @@ ghost use Rattle.vc_types.specs.Subbands.{slice_count};
 ghost use Rattle.vc_types.specs.TransformParameters.{parameters_of};
 
 use crate::plans::{PlannedPlane, planned};
-use crate::words::{add_number, add_word, natural};
-use std::alloc::Global;
+use crate::said::Said;
+use crate::words::natural;
 use vc_geometry::{Rect, band, bands, padded, place_of, slice_len, slice_rect, slice_rects};
 use worked_common::Bad;
 
 /// A component's padded width and height.
-pub(crate) fn padding(alloc: Global, given: &str, into: &mut String) -> Result<(), Bad> {
-    let (planned, _) = planned(alloc, given)?;
+pub(crate) fn padding(given: &str, said: &mut Said) -> Result<(), Bad> {
+    let (planned, _) = planned(said.alloc(), given)?;
     let (width, height) = padded(&planned.plan, planned.component);
-    add_number(alloc, into, i128::from(width))?;
-    add_number(alloc, into, i128::from(height))
+    said.words(&[width, height]);
+    Ok(())
 }
 
-fn add_rect(alloc: Global, rect: Rect, into: &mut String) -> Result<(), Bad> {
+fn add_rect(rect: Rect, said: &mut Said) {
     let Rect {
         x,
         y,
         width,
         height,
     } = rect;
-    let word = format!(in alloc; "{x},{y},{width}x{height}")?;
-    add_word(into, word.as_str())
+    write!(said, "{x},{y},{width}x{height} ");
 }
 
 /// Where a component's subbands stand, in their order.
-pub(crate) fn subbands(alloc: Global, given: &str, into: &mut String) -> Result<(), Bad> {
-    let (planned, _) = planned(alloc, given)?;
+pub(crate) fn subbands(given: &str, said: &mut Said) -> Result<(), Bad> {
+    let (planned, _) = planned(said.alloc(), given)?;
     for b in 0..bands(&planned.plan) {
-        add_rect(alloc, band(&planned.plan, planned.component, b), into)?;
+        add_rect(band(&planned.plan, planned.component, b), said);
     }
     Ok(())
 }
@@ -49,19 +48,19 @@ fn slice_of(planned: &PlannedPlane, word: &str) -> Result<u32, Bad>
 }
 
 /// The part of each subband that belongs to a slice.
-pub(crate) fn rectangles(alloc: Global, given: &str, into: &mut String) -> Result<(), Bad> {
-    let (planned, word) = planned(alloc, given)?;
+pub(crate) fn rectangles(given: &str, said: &mut Said) -> Result<(), Bad> {
+    let (planned, word) = planned(said.alloc(), given)?;
     let slice = slice_of(&planned, word)?;
     for b in 0..bands(&planned.plan) {
         let rect = slice_rect(&planned.plan, planned.component, b, slice);
-        add_rect(alloc, rect, into)?;
+        add_rect(rect, said);
     }
     Ok(())
 }
 
 /// The same at once, and none for numbers above the last subband's.
-pub(crate) fn rectangles_at_once(alloc: Global, given: &str, into: &mut String) -> Result<(), Bad> {
-    let (planned, word) = planned(alloc, given)?;
+pub(crate) fn rectangles_at_once(given: &str, said: &mut Said) -> Result<(), Bad> {
+    let (planned, word) = planned(said.alloc(), given)?;
     let slice = slice_of(&planned, word)?;
     let mut rects = [Rect {
         x: 0,
@@ -71,29 +70,27 @@ pub(crate) fn rectangles_at_once(alloc: Global, given: &str, into: &mut String) 
     }; 16];
     slice_rects(&planned.plan, planned.component, slice, &mut rects);
     for b in 0..bands(&planned.plan) {
-        add_rect(alloc, rects[b as usize], into)?;
+        add_rect(rects[b as usize], said);
     }
     Ok(())
 }
 
 /// How many coefficients each slice has.
-pub(crate) fn lengths(alloc: Global, given: &str, into: &mut String) -> Result<(), Bad> {
-    let (planned, _) = planned(alloc, given)?;
+pub(crate) fn lengths(given: &str, said: &mut Said) -> Result<(), Bad> {
+    let (planned, _) = planned(said.alloc(), given)?;
     for slice in 0..planned.plan.slices_x * planned.plan.slices_y {
-        let length = slice_len(&planned.plan, planned.component, slice);
-        add_number(alloc, into, i128::from(length))?;
+        said.word(slice_len(&planned.plan, planned.component, slice));
     }
     Ok(())
 }
 
 /// The column and row of each coefficient of a slice.
-pub(crate) fn places(alloc: Global, given: &str, into: &mut String) -> Result<(), Bad> {
-    let (planned, word) = planned(alloc, given)?;
+pub(crate) fn places(given: &str, said: &mut Said) -> Result<(), Bad> {
+    let (planned, word) = planned(said.alloc(), given)?;
     let slice = slice_of(&planned, word)?;
     for i in 0..slice_len(&planned.plan, planned.component, slice) {
         let (x, y) = place_of(&planned.plan, planned.component, slice, i);
-        let word = format!(in alloc; "{x},{y}")?;
-        add_word(into, word.as_str())?;
+        write!(said, "{x},{y} ");
     }
     Ok(())
 }

@@ -5,9 +5,8 @@ ghost use Rattle.vc_types.specs.TransformParameters.{is_symmetric, parameters_of
 
 use crate::lines::some_cells;
 use crate::plans::{PlannedPlane, planned};
-use crate::words::{
-    add_long, add_number, add_numbers, add_word, long_numbers, numbers, samples, weighed,
-};
+use crate::said::Said;
+use crate::words::{long_numbers, numbers, samples, weighed};
 use std::alloc::Global;
 use vc_geometry::padded;
 use vc_types::{Component, Grid, Plan, Plane};
@@ -56,33 +55,43 @@ pub(crate) fn samples_of(alloc: Global, of: &PlannedPlane, cells: Vec<i128>) -> 
 }
 
 /// The samples of coefficients.
-pub(crate) fn inverses(alloc: Global, given: &str, into: &mut String) -> Result<(), Bad> {
-    let (planned, cells) = planned(alloc, given)?;
-    let made = samples_of(alloc, &planned, numbers(alloc, cells)?)?;
-    add_numbers(alloc, into, made.cells())
+pub(crate) fn inverses(given: &str, said: &mut Said) -> Result<(), Bad> {
+    let (planned, cells) = planned(said.alloc(), given)?;
+    let cells = numbers(said.alloc(), cells)?;
+    let made = samples_of(said.alloc(), &planned, cells)?;
+    said.words(made.cells());
+    Ok(())
 }
 
-/// The same in cells of 64 bits, or that these aren't enough.
-pub(crate) fn long_inverses(alloc: Global, given: &str, into: &mut String) -> Result<(), Bad> {
-    let (planned, cells) = planned(alloc, given)?;
-    let mut cells = long_numbers(alloc, cells)?;
-    let (width, height) = padded(&planned.plan, planned.component);
+fn add_long_inverse(of: &PlannedPlane, cells: Vec<i64>, said: &mut Said) -> Result<(), Bad> {
+    let mut cells = cells;
+    let (width, height) = padded(&of.plan, of.component);
     if cells.len() != height as usize * width as usize {
         return Err(Bad::NoRow);
     }
-    if inverse_long(alloc, &planned.plan, planned.component, &mut cells)? {
-        add_long(alloc, into, cells.as_slice())
+    if inverse_long(said.alloc(), &of.plan, of.component, &mut cells)? {
+        said.words(cells.as_slice());
     } else {
-        add_word(into, "wide")
+        said.word("wide");
     }
+    Ok(())
+}
+
+/// The same in cells of 64 bits, or that these aren't enough.
+pub(crate) fn long_inverses(given: &str, said: &mut Said) -> Result<(), Bad> {
+    let (planned, cells) = planned(said.alloc(), given)?;
+    let cells = long_numbers(said.alloc(), cells)?;
+    add_long_inverse(&planned, cells, said)
 }
 
 /// The sum of each sample times its place that some coefficients are made into.
-pub(crate) fn inverse_sum(alloc: Global, given: &str, into: &mut String) -> Result<(), Bad> {
-    let (planned, _) = planned(alloc, given)?;
+pub(crate) fn inverse_sum(given: &str, said: &mut Said) -> Result<(), Bad> {
+    let (planned, _) = planned(said.alloc(), given)?;
     let (width, height) = padded(&planned.plan, planned.component);
-    let made = samples_of(alloc, &planned, some_cells(alloc, width * height)?)?;
-    add_number(alloc, into, weighed(made.cells()))
+    let cells = some_cells(said.alloc(), width * height)?;
+    let made = samples_of(said.alloc(), &planned, cells)?;
+    said.word(weighed(made.cells()));
+    Ok(())
 }
 
 // Whether samples have so many bits at most.
@@ -130,8 +139,11 @@ pub(crate) fn coefficients(alloc: Global, of: &PlannedPlane, plane: &Plane) -> R
 }
 
 /// The coefficients of samples.
-pub(crate) fn forwards(alloc: Global, given: &str, into: &mut String) -> Result<(), Bad> {
-    let (planned, text) = planned(alloc, given)?;
-    let plane = plane_of(&planned, samples(alloc, text)?)?;
-    add_numbers(alloc, into, coefficients(alloc, &planned, &plane)?.cells())
+pub(crate) fn forwards(given: &str, said: &mut Said) -> Result<(), Bad> {
+    let (planned, text) = planned(said.alloc(), given)?;
+    let samples = samples(said.alloc(), text)?;
+    let plane = plane_of(&planned, samples)?;
+    let made = coefficients(said.alloc(), &planned, &plane)?;
+    said.words(made.cells());
+    Ok(())
 }

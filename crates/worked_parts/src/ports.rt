@@ -1,5 +1,6 @@
 //! Rows of sources and sinks in memory.
-use crate::words::{add_bytes, add_number, add_word, bytes_of, natural, parted};
+use crate::said::Said;
+use crate::words::{bytes_of, natural, parted};
 use std::alloc::Global;
 use vc_ports::{
     Filled, Got, MemSink, MemSource, PlainSink, PlainSource, Sink, Source, Took, fill, write_all,
@@ -21,124 +22,84 @@ fn buffer(alloc: Global, word: &str) -> Result<Vec<u8>, Bad> {
     Ok(buffer)
 }
 
-/// Adds the front of a buffer to a text.
-pub(crate) fn add_front(
-    alloc: Global,
-    buffer: &[u8],
-    count: usize,
-    into: &mut String,
-) -> Result<(), Bad> {
+/// The front of a buffer.
+pub(crate) fn add_front(buffer: &[u8], count: usize, said: &mut Said) -> Result<(), Bad> {
     match buffer.split_at_checked(count) {
-        Some((front, _)) => add_bytes(alloc, into, front),
-        None => Err(Bad::NoRow),
-    }
-}
-
-fn add_read<S: Source>(
-    alloc: Global,
-    source: &mut S,
-    word: &str,
-    into: &mut String,
-) -> Result<(), Bad> {
-    let mut buffer = buffer(alloc, word)?;
-    if buffer.len() == 0 {
-        return Err(Bad::NoRow);
-    }
-    match source.read(buffer.as_mut_slice()) {
-        Got::Bytes(count) => add_front(alloc, buffer.as_slice(), count, into),
-        Got::End => add_word(into, "end"),
-        Got::Failed => add_word(into, "failed"),
-    }
-}
-
-fn add_reads<S: Source>(
-    alloc: Global,
-    source: &mut S,
-    sizes: &str,
-    into: &mut String,
-) -> Result<(), Bad> {
-    for word in sizes.split_whitespace() {
-        add_read(alloc, source, word, into)?;
+        Some((front, _)) => said.bytes(front),
+        None => return Err(Bad::NoRow),
     }
     Ok(())
 }
 
-// A source of bytes, whose calls of these numbers fail.
-fn source(
+fn add_read<S: Source>(source: &mut S, buffer: &mut [u8], said: &mut Said) -> Result<(), Bad> {
+    if buffer.len() == 0 {
+        return Err(Bad::NoRow);
+    }
+    match source.read(buffer) {
+        Got::Bytes(count) => return add_front(buffer, count, said),
+        Got::End => said.word("end"),
+        Got::Failed => said.word("failed"),
+    }
+    Ok(())
+}
+
+fn add_reads<S: Source>(source: &mut S, sizes: &str, said: &mut Said) -> Result<(), Bad> {
+    for word in sizes.split_whitespace() {
+        let mut buffer = buffer(said.alloc(), word)?;
+        add_read(source, buffer.as_mut_slice(), said)?;
+    }
+    Ok(())
+}
+
+// A source of bytes, whose calls of these numbers fail, and what stands behind.
+fn source<'a>(
     alloc: Global,
     parts: &[NamedBytes],
-    numbers: &str,
-    bytes: &str,
-) -> Result<MemSource, Bad> {
+    given: &'a str,
+) -> Result<(MemSource, &'a str), Bad> {
+    let (numbers, rest) = parted(given)?;
+    let (bytes, sizes) = parted(rest)?;
     let bytes = bytes_of(alloc, parts, bytes)?;
-    Ok(MemSource::new(bytes, fails(alloc, numbers)?))
+    Ok((MemSource::new(bytes, fails(alloc, numbers)?), sizes))
 }
 
 /// What reads into buffers of these sizes answer, where the calls of these numbers fail.
-pub(crate) fn memory_source(
-    alloc: Global,
-    parts: &[NamedBytes],
-    given: &str,
-    into: &mut String,
-) -> Result<(), Bad> {
-    let (numbers, rest) = parted(given)?;
-    let (bytes, sizes) = parted(rest)?;
-    let mut source = source(alloc, parts, numbers, bytes)?;
-    add_reads(alloc, &mut source, sizes, into)
+pub(crate) fn memory_source(parts: &[NamedBytes], given: &str, said: &mut Said) -> Result<(), Bad> {
+    let (mut source, sizes) = source(said.alloc(), parts, given)?;
+    add_reads(&mut source, sizes, said)
 }
 
 /// The same of a source that never fails.
-pub(crate) fn plain_source(
-    alloc: Global,
-    parts: &[NamedBytes],
-    given: &str,
-    into: &mut String,
-) -> Result<(), Bad> {
+pub(crate) fn plain_source(parts: &[NamedBytes], given: &str, said: &mut Said) -> Result<(), Bad> {
     let (bytes, sizes) = parted(given)?;
-    let mut source = PlainSource::new(bytes_of(alloc, parts, bytes)?);
-    add_reads(alloc, &mut source, sizes, into)
+    let mut source = PlainSource::new(bytes_of(said.alloc(), parts, bytes)?);
+    add_reads(&mut source, sizes, said)
 }
 
-fn add_filled<S: Source>(
-    alloc: Global,
-    source: &mut S,
-    word: &str,
-    into: &mut String,
-) -> Result<(), Bad> {
-    let mut buffer = buffer(alloc, word)?;
+fn add_filled<S: Source>(source: &mut S, buffer: &mut [u8], said: &mut Said) -> Result<(), Bad> {
     let length = buffer.len();
-    let (count, what) = match fill(source, buffer.as_mut_slice()) {
+    let (count, what) = match fill(source, buffer) {
         Filled::Whole => (length, "whole"),
         Filled::End(count) => (count, "end"),
         Filled::Failed(count) => (count, "failed"),
     };
-    add_front(alloc, buffer.as_slice(), count, into)?;
-    add_word(into, what)
+    add_front(buffer, count, said)?;
+    said.word(what);
+    Ok(())
 }
 
-fn add_all_filled<S: Source>(
-    alloc: Global,
-    source: &mut S,
-    sizes: &str,
-    into: &mut String,
-) -> Result<(), Bad> {
+fn add_all_filled<S: Source>(source: &mut S, sizes: &str, said: &mut Said) -> Result<(), Bad> {
     for word in sizes.split_whitespace() {
-        add_filled(alloc, source, word, into)?;
+        let mut buffer = buffer(said.alloc(), word)?;
+        add_filled(source, buffer.as_mut_slice(), said)?;
     }
     Ok(())
 }
 
 /// What filling buffers of these sizes comes to, where the reads of these numbers fail.
-pub(crate) fn filled(
-    alloc: Global,
-    parts: &[NamedBytes],
-    given: &str,
-    into: &mut String,
-) -> Result<(), Bad> {
-    let (numbers, rest) = parted(given)?;
-    let (bytes, sizes) = parted(rest)?;
-    let mut source = source(alloc, parts, numbers, bytes)?;
-    add_all_filled(alloc, &mut source, sizes, into)
+pub(crate) fn filled(parts: &[NamedBytes], given: &str, said: &mut Said) -> Result<(), Bad> {
+    let (mut source, sizes) = source(said.alloc(), parts, given)?;
+    add_all_filled(&mut source, sizes, said)
 }
 
 // A sink of so many bytes, whose calls of these numbers fail.
@@ -156,82 +117,66 @@ fn pieces_of(alloc: Global, parts: &[NamedBytes], text: &str) -> Result<Vec<Vec<
     Ok(pieces)
 }
 
-fn add_writes<O: Sink>(
+// A sink, and the bytes of each piece that is written to it.
+fn sink_and_pieces(
     alloc: Global,
-    sink: &mut O,
-    pieces: &[Vec<u8>],
-    into: &mut String,
-) -> Result<(), Bad> {
-    for piece in pieces {
-        add_write(alloc, sink, piece.as_slice(), into)?;
-    }
-    Ok(())
+    parts: &[NamedBytes],
+    given: &str,
+) -> Result<(MemSink, Vec<Vec<u8>>), Bad> {
+    let (front, pieces) = parted(given)?;
+    Ok((sink(alloc, front)?, pieces_of(alloc, parts, pieces)?))
 }
 
-fn add_write<O: Sink>(
-    alloc: Global,
-    sink: &mut O,
-    piece: &[u8],
-    into: &mut String,
-) -> Result<(), Bad> {
+fn add_write<O: Sink>(sink: &mut O, piece: &[u8], said: &mut Said) -> Result<(), Bad> {
     if piece.is_empty() {
         return Err(Bad::NoRow);
     }
     match sink.write(piece) {
-        Took::Bytes(count) => add_number(alloc, into, count as i128),
-        Took::Failed => add_word(into, "failed"),
+        Took::Bytes(count) => said.word(count),
+        Took::Failed => said.word("failed"),
     }
+    Ok(())
 }
 
-fn add_held(alloc: Global, sink: &MemSink, into: &mut String) -> Result<(), Bad> {
-    add_word(into, "held")?;
-    add_bytes(alloc, into, sink.bytes())
+fn add_writes<O: Sink>(sink: &mut O, pieces: &[Vec<u8>], said: &mut Said) -> Result<(), Bad> {
+    for piece in pieces {
+        add_write(sink, piece.as_slice(), said)?;
+    }
+    Ok(())
+}
+
+fn add_held(sink: &MemSink, said: &mut Said) {
+    said.word("held");
+    said.bytes(sink.bytes());
 }
 
 /// What writes of pieces answer, and what is held then, by a sink that has room for so many bytes.
-pub(crate) fn memory_sink(
-    alloc: Global,
-    parts: &[NamedBytes],
-    given: &str,
-    into: &mut String,
-) -> Result<(), Bad> {
-    let (front, pieces) = parted(given)?;
-    let mut sink = sink(alloc, front)?;
-    let pieces = pieces_of(alloc, parts, pieces)?;
-    add_writes(alloc, &mut sink, pieces.as_slice(), into)?;
-    add_held(alloc, &sink, into)
+pub(crate) fn memory_sink(parts: &[NamedBytes], given: &str, said: &mut Said) -> Result<(), Bad> {
+    let (mut sink, pieces) = sink_and_pieces(said.alloc(), parts, given)?;
+    add_writes(&mut sink, pieces.as_slice(), said)?;
+    add_held(&sink, said);
+    Ok(())
 }
 
 /// What a sink that drops all answers.
-pub(crate) fn plain_sink(
-    alloc: Global,
-    parts: &[NamedBytes],
-    given: &str,
-    into: &mut String,
-) -> Result<(), Bad> {
-    let pieces = pieces_of(alloc, parts, given)?;
-    add_writes(alloc, &mut PlainSink::new(), pieces.as_slice(), into)
+pub(crate) fn plain_sink(parts: &[NamedBytes], given: &str, said: &mut Said) -> Result<(), Bad> {
+    let pieces = pieces_of(said.alloc(), parts, given)?;
+    add_writes(&mut PlainSink::new(), pieces.as_slice(), said)
 }
 
-fn add_whole(sink: &mut MemSink, piece: &[u8], into: &mut String) -> Result<(), Bad> {
+fn add_whole(sink: &mut MemSink, piece: &[u8], said: &mut Said) {
     match write_all(sink, piece) {
-        Ok(()) => add_word(into, "written"),
-        Err(_) => add_word(into, "failed"),
+        Ok(()) => said.word("written"),
+        Err(_) => said.word("failed"),
     }
 }
 
 /// What writes of whole pieces come to, and what is held then.
-pub(crate) fn written(
-    alloc: Global,
-    parts: &[NamedBytes],
-    given: &str,
-    into: &mut String,
-) -> Result<(), Bad> {
-    let (front, pieces) = parted(given)?;
-    let mut sink = sink(alloc, front)?;
-    let pieces = pieces_of(alloc, parts, pieces)?;
+pub(crate) fn written(parts: &[NamedBytes], given: &str, said: &mut Said) -> Result<(), Bad> {
+    let (mut sink, pieces) = sink_and_pieces(said.alloc(), parts, given)?;
     for piece in pieces.iter() {
-        add_whole(&mut sink, piece.as_slice(), into)?;
+        add_whole(&mut sink, piece.as_slice(), said);
     }
-    add_held(alloc, &sink, into)
+    add_held(&sink, said);
+    Ok(())
 }

@@ -2,12 +2,10 @@
 ghost use Rattle.std.specs.Prelude.{◌≡◌, IfOk, Ok};
 ghost use Rattle.rtcp_reports.specs.Rtcp.{compound, IsName};
 
-use crate::words::{
-    add_bytes, add_named, add_number, add_word, bytes_of, natural, number, numbers, parted,
-};
+use crate::said::Said;
+use crate::words::{bytes_of, natural, number, numbers, parted};
 use rtcp_reports::{
-    Block, CompoundView, RtcpRefusal, SenderInfo, Track, block_at, read_compound, write_rr,
-    write_sr,
+    Block, CompoundView, SenderInfo, Track, block_at, read_compound, write_rr, write_sr,
 };
 use std::alloc::Global;
 use worked_common::{Bad, NamedBytes};
@@ -44,29 +42,22 @@ fn sequence(number: i128) -> Result<u16, Bad> {
     }
 }
 
-fn add_losses(alloc: Global, block: &Block, into: &mut String) -> Result<(), Bad> {
-    add_named(alloc, into, &[("fraction", u32::from(block.fraction))])?;
-    add_word(into, "lost")?;
-    add_number(alloc, into, i128::from(block.lost))?;
-    add_named(alloc, into, &[("highest", block.highest)])
+fn add_losses(block: &Block, said: &mut Said) {
+    let (fraction, lost, highest) = (block.fraction, block.lost, block.highest);
+    write!(said, "fraction {fraction} lost {lost} highest {highest} ");
 }
 
-fn add_report(alloc: Global, source: &mut Source, into: &mut String) -> Result<(), Bad> {
+fn add_report(source: &mut Source, said: &mut Said) {
     match source.track.block(0) {
-        Some(block) => add_losses(alloc, &block, into),
-        None => add_word(into, "none"),
+        Some(block) => add_losses(&block, said),
+        None => said.word("none"),
     }
 }
 
-fn add_updates(
-    alloc: Global,
-    source: &mut Source,
-    numbers: &[i128],
-    into: &mut String,
-) -> Result<(), Bad> {
+fn add_updates(source: &mut Source, numbers: &[i128], said: &mut Said) -> Result<(), Bad> {
     for number in numbers {
         let counts = source.update(sequence(*number)?)?;
-        add_number(alloc, into, i128::from(counts))?;
+        said.word(u8::from(counts));
     }
     Ok(())
 }
@@ -78,30 +69,42 @@ fn first(numbers: &[i128]) -> Result<u16, Bad> {
     }
 }
 
+fn source_of(alloc: Global, text: &str) -> Result<Source, Bad> {
+    let numbers = numbers(alloc, text)?;
+    Ok(Source::new(first(numbers.as_slice())?))
+}
+
 /// Whether each packet of a source counts, by its sequence number, and a report behind each colon and at the
 /// end.
-pub(crate) fn track(alloc: Global, given: &str, into: &mut String) -> Result<(), Bad> {
-    let front = numbers(alloc, given.split(':').next().unwrap_or(""))?;
-    let mut source = Source::new(first(front.as_slice())?);
+pub(crate) fn track(given: &str, said: &mut Said) -> Result<(), Bad> {
+    let mut source = source_of(said.alloc(), given.split(':').next().unwrap_or(""))?;
     for part in given.split(':') {
-        let packets = numbers(alloc, part)?;
-        add_updates(alloc, &mut source, packets.as_slice(), into)?;
-        add_report(alloc, &mut source, into)?;
+        let packets = numbers(said.alloc(), part)?;
+        add_updates(&mut source, packets.as_slice(), said)?;
+        add_report(&mut source, said);
     }
     Ok(())
 }
 
-/// A report on packets of which each is so far ahead of the one before; the first number stands in front.
-pub(crate) fn track_steps(alloc: Global, given: &str, into: &mut String) -> Result<(), Bad> {
-    let (front, steps) = parted(given)?;
-    let mut next = sequence(number(front)?)?;
+// A source of which packets came, each so far ahead of the one before; the first number stands in front.
+fn stepped(first: u16, steps: &[i128]) -> Result<Source, Bad> {
+    let mut next = first;
     let mut source = Source::new(next);
     source.update(next)?;
-    for step in numbers(alloc, steps)?.iter() {
+    for step in steps {
         next = next.wrapping_add(sequence(*step)?);
         source.update(next)?;
     }
-    add_report(alloc, &mut source, into)
+    Ok(source)
+}
+
+/// A report on packets of which each is so far ahead of the one before; the first number stands in front.
+pub(crate) fn track_steps(given: &str, said: &mut Said) -> Result<(), Bad> {
+    let (front, steps) = parted(given)?;
+    let first = sequence(number(front)?)?;
+    let steps = numbers(said.alloc(), steps)?;
+    add_report(&mut stepped(first, steps.as_slice())?, said);
+    Ok(())
 }
 
 fn field(number: i128) -> Result<u32, Bad> {
@@ -200,19 +203,21 @@ fn add_rr(
 }
 
 /// A receiver report and a name, behind other bytes.
-pub(crate) fn rr_written(
-    alloc: Global,
-    parts: &[NamedBytes],
-    given: &str,
-    into: &mut String,
-) -> Result<(), Bad> {
+pub(crate) fn rr_written(parts: &[NamedBytes], given: &str, said: &mut Said) -> Result<(), Bad> {
     let (before, rest) = parted(given)?;
     let (ssrc, rest) = parted(rest)?;
     let (block, name) = parted(rest)?;
-    let mut out = bytes_of(alloc, parts, before)?;
-    let name = bytes_of(alloc, parts, name)?;
-    add_rr(alloc, &mut out, natural(ssrc)?, block, name.as_slice())?;
-    add_bytes(alloc, into, out.as_slice())
+    let mut out = bytes_of(said.alloc(), parts, before)?;
+    let name = bytes_of(said.alloc(), parts, name)?;
+    add_rr(
+        said.alloc(),
+        &mut out,
+        natural(ssrc)?,
+        block,
+        name.as_slice(),
+    )?;
+    said.bytes(out.as_slice());
+    Ok(())
 }
 
 fn add_sr(out: &mut Vec<u8>, sender: &SenderInfo, name: &[u8]) -> Result<(), Bad> {
@@ -222,91 +227,72 @@ fn add_sr(out: &mut Vec<u8>, sender: &SenderInfo, name: &[u8]) -> Result<(), Bad
 }
 
 /// A sender report and a name, behind other bytes.
-pub(crate) fn sr_written(
-    alloc: Global,
-    parts: &[NamedBytes],
-    given: &str,
-    into: &mut String,
-) -> Result<(), Bad> {
+pub(crate) fn sr_written(parts: &[NamedBytes], given: &str, said: &mut Said) -> Result<(), Bad> {
     let (before, rest) = parted(given)?;
     let (sender, name) = parted(rest)?;
-    let mut out = bytes_of(alloc, parts, before)?;
-    let name = bytes_of(alloc, parts, name)?;
-    add_sr(&mut out, &sender_of(alloc, sender)?, name.as_slice())?;
-    add_bytes(alloc, into, out.as_slice())
+    let mut out = bytes_of(said.alloc(), parts, before)?;
+    let name = bytes_of(said.alloc(), parts, name)?;
+    add_sr(&mut out, &sender_of(said.alloc(), sender)?, name.as_slice())?;
+    said.bytes(out.as_slice());
+    Ok(())
 }
 
-fn add_view(alloc: Global, view: &CompoundView, into: &mut String) -> Result<(), Bad> {
+fn add_sender(ssrc: u32, sender: &SenderInfo, said: &mut Said) {
+    said.named(&[
+        ("sr", ssrc),
+        ("ntp", sender.ntp),
+        ("timestamp", sender.timestamp),
+        ("packets", sender.packets),
+        ("octets", sender.octets),
+    ]);
+}
+
+fn add_view(view: &CompoundView, said: &mut Said) {
     match view.sender {
-        Some(sender) => {
-            let fields = [
-                ("sr", view.ssrc),
-                ("ntp", sender.ntp),
-                ("timestamp", sender.timestamp),
-                ("packets", sender.packets),
-                ("octets", sender.octets),
-            ];
-            add_named(alloc, into, &fields)?;
-        }
-        None => add_named(alloc, into, &[("rr", view.ssrc)])?,
+        Some(sender) => add_sender(view.ssrc, &sender, said),
+        None => said.named(&[("rr", view.ssrc)]),
     }
-    add_named(alloc, into, &[("blocks", u32::from(view.blocks))])
+    said.named(&[("blocks", u32::from(view.blocks))]);
 }
 
-fn add_blocks(
-    alloc: Global,
-    bytes: &[u8],
-    view: &CompoundView,
-    into: &mut String,
-) -> Result<(), Bad>
+fn add_blocks(bytes: &[u8], view: &CompoundView, said: &mut Said)
     requires { compound bytes.now ≡ Ok view.now }
 {
     for i in 0..view.blocks {
         let block = block_at(bytes, view, i);
-        add_named(alloc, into, &[("block", block.ssrc)])?;
-        add_losses(alloc, &block, into)?;
+        said.named(&[("block", block.ssrc)]);
+        add_losses(&block, said);
+    }
+}
+
+/// What the report says that a compound packet begins with, and its blocks; or its refusal, with the number.
+pub(crate) fn compound(parts: &[NamedBytes], given: &str, said: &mut Said) -> Result<(), Bad> {
+    let bytes = bytes_of(said.alloc(), parts, given)?;
+    match read_compound(bytes.as_slice()) {
+        Ok(view) => {
+            add_view(&view, said);
+            add_blocks(bytes.as_slice(), &view, said);
+        }
+        Err(refusal) => {
+            said.named(&[("refused", u32::from(refusal.number()))]);
+            said.shown(refusal);
+        }
     }
     Ok(())
 }
 
-fn add_refusal(alloc: Global, refusal: RtcpRefusal, into: &mut String) -> Result<(), Bad> {
-    let word = format!(in alloc; "{refusal:?}")?;
-    add_word(into, word.as_str())
-}
-
-/// What the report says that a compound packet begins with, and its blocks; or its refusal, with the number.
-pub(crate) fn compound(
-    alloc: Global,
-    parts: &[NamedBytes],
-    given: &str,
-    into: &mut String,
-) -> Result<(), Bad> {
-    let bytes = bytes_of(alloc, parts, given)?;
-    match read_compound(bytes.as_slice()) {
-        Ok(view) => {
-            add_view(alloc, &view, into)?;
-            add_blocks(alloc, bytes.as_slice(), &view, into)
-        }
-        Err(refusal) => {
-            add_named(alloc, into, &[("refused", u32::from(refusal.number()))])?;
-            add_refusal(alloc, refusal, into)
+fn add_cuts(bytes: &[u8], said: &mut Said) {
+    for length in 0..=bytes.len() {
+        match read_compound(bytes.get(..length).unwrap_or(bytes)) {
+            Ok(_) => said.word("read"),
+            Err(refusal) => said.shown(refusal),
         }
     }
 }
 
 /// What is read of the first 0, 1, 2, .. and all of a compound packet's bytes.
-pub(crate) fn compound_cuts(
-    alloc: Global,
-    parts: &[NamedBytes],
-    given: &str,
-    into: &mut String,
-) -> Result<(), Bad> {
-    let bytes = bytes_of(alloc, parts, given)?;
-    for length in 0..=bytes.len() {
-        match read_compound(bytes.get(..length).unwrap_or(bytes.as_slice())) {
-            Ok(_) => add_word(into, "read")?,
-            Err(refusal) => add_refusal(alloc, refusal, into)?,
-        }
-    }
+pub(crate) fn compound_cuts(parts: &[NamedBytes], given: &str, said: &mut Said) -> Result<(), Bad> {
+    let bytes = bytes_of(said.alloc(), parts, given)?;
+    add_cuts(bytes.as_slice(), said);
     Ok(())
 }

@@ -2,8 +2,8 @@
 ghost use Rattle.std.specs.Prelude.{◌≡◌};
 
 use crate::plans::sampling;
-use crate::words::{add_number, add_word, natural, two};
-use std::alloc::Global;
+use crate::said::Said;
+use crate::words::{natural, two};
 use vc_types::{
     Header, Sampling, Shape, SignalRange, dimensions_fit, padded, picture_height, slices_fit,
 };
@@ -17,27 +17,29 @@ fn has_fields(word: &str) -> Result<bool, Bad> {
     }
 }
 
-fn add_answer(into: &mut String, fit: bool) -> Result<(), Bad> {
-    add_word(into, if fit { "fit" } else { "no" })
+fn answer(fit: bool) -> &'static str {
+    if fit { "fit" } else { "no" }
 }
 
 /// Whether frames of a size and a sampling can be coded, as frames or as fields.
-pub(crate) fn dimensions(given: &str, into: &mut String) -> Result<(), Bad> {
+pub(crate) fn dimensions(given: &str, said: &mut Said) -> Result<(), Bad> {
     let mut words = given.split_whitespace();
     let (width, height) = two(words.next().unwrap_or(""), 'x')?;
     let sampling = sampling(words.next().unwrap_or(""))?;
     let fields = has_fields(words.next().unwrap_or(""))?;
-    add_answer(into, dimensions_fit(width, height, sampling, fields))
+    said.word(answer(dimensions_fit(width, height, sampling, fields)));
+    Ok(())
 }
 
 /// Whether a picture can be cut into so many slices across and down.
-pub(crate) fn slices(given: &str, into: &mut String) -> Result<(), Bad> {
+pub(crate) fn slices(given: &str, said: &mut Said) -> Result<(), Bad> {
     let (across, down) = two(given, 'x')?;
-    add_answer(into, slices_fit(across, down))
+    said.word(answer(slices_fit(across, down)));
+    Ok(())
 }
 
 /// The least multiple of a power of two that is at least a side.
-pub(crate) fn side(alloc: Global, given: &str, into: &mut String) -> Result<(), Bad> {
+pub(crate) fn side(given: &str, said: &mut Said) -> Result<(), Bad> {
     let Some((side, depth)) = given.trim().split_once(' ') else {
         return Err(Bad::NoRow);
     };
@@ -45,16 +47,17 @@ pub(crate) fn side(alloc: Global, given: &str, into: &mut String) -> Result<(), 
     if side > 8192 || depth > 5 {
         return Err(Bad::NoRow);
     }
-    add_number(alloc, into, i128::from(padded(side, depth as u8)))
+    said.word(padded(side, depth as u8));
+    Ok(())
 }
 
 /// The height of a picture of a frame's height, of frames or of fields.
-pub(crate) fn height(alloc: Global, given: &str, into: &mut String) -> Result<(), Bad> {
+pub(crate) fn height(given: &str, said: &mut Said) -> Result<(), Bad> {
     let Some((height, word)) = given.trim().split_once(' ') else {
         return Err(Bad::NoRow);
     };
-    let height = picture_height(has_fields(word)?, natural(height)?);
-    add_number(alloc, into, i128::from(height))
+    said.word(picture_height(has_fields(word)?, natural(height)?));
+    Ok(())
 }
 
 fn range(excursions: (u32, u32)) -> SignalRange
@@ -98,11 +101,9 @@ fn header(
     })
 }
 
-fn add_size(alloc: Global, size: (u32, u32), depth: u8, into: &mut String) -> Result<(), Bad> {
+fn add_size(size: (u32, u32), depth: u8, said: &mut Said) {
     let (width, height) = size;
-    let word = format!(in alloc; "{width}x{height} ")?;
-    into.push_str(word.as_str())?;
-    add_number(alloc, into, i128::from(depth))
+    write!(said, "{width}x{height} {depth} ");
 }
 
 fn shape_of(given: &str) -> Result<Shape, Bad> {
@@ -116,10 +117,17 @@ fn shape_of(given: &str) -> Result<Shape, Bad> {
 
 /// The sizes and the bits of the planes of a picture, luma first, from a frame's size, its sampling, the
 /// excursions of luma and colour, and whether it is coded as a frame.
-pub(crate) fn shape(alloc: Global, given: &str, into: &mut String) -> Result<(), Bad> {
+pub(crate) fn shape(given: &str, said: &mut Said) -> Result<(), Bad> {
     let shape = shape_of(given)?;
-    let luma = (shape.luma_width, shape.luma_height);
-    let colour = (shape.colour_width, shape.colour_height);
-    add_size(alloc, luma, shape.luma_depth, into)?;
-    add_size(alloc, colour, shape.colour_depth, into)
+    add_size(
+        (shape.luma_width, shape.luma_height),
+        shape.luma_depth,
+        said,
+    );
+    add_size(
+        (shape.colour_width, shape.colour_height),
+        shape.colour_depth,
+        said,
+    );
+    Ok(())
 }

@@ -8,9 +8,8 @@ ghost use Rattle.vc_types.specs.Subbands.{slice_coefficient_count, slice_count};
 ghost use Rattle.vc_types.specs.TransformParameters.{parameters_of};
 
 use crate::parameters::plan_of;
-use crate::words::{
-    add_bytes, add_number, add_pieces, add_word, bytes_of, long_numbers, natural, parted,
-};
+use crate::said::Said;
+use crate::words::{bytes_of, long_numbers, natural, parted};
 use bytes::Bytes;
 use std::alloc::Global;
 use vc_geometry::slice_len;
@@ -40,41 +39,31 @@ fn cut_of(alloc: Global, parts: &[NamedBytes], given: &str) -> Result<Cut, Bad> 
     })
 }
 
-fn add_cut(alloc: Global, of: &Cut, bytes: &[u8], into: &mut String) -> Result<(), Bad> {
+fn add_cut(of: &Cut, bytes: &[u8], said: &mut Said) {
     match cut(of.prefix, of.scaler, bytes) {
-        Ok(length) => add_number(alloc, into, length as i128),
-        Err(_) => add_word(into, "Short"),
+        Ok(length) => said.word(length),
+        Err(_) => said.word("Short"),
     }
 }
 
 /// The length of the slice that begins bytes: prefix bytes : size scaler : the bytes.
-pub(crate) fn cut_slice(
-    alloc: Global,
-    parts: &[NamedBytes],
-    given: &str,
-    into: &mut String,
-) -> Result<(), Bad> {
-    let of = cut_of(alloc, parts, given)?;
-    add_cut(alloc, &of, of.bytes.as_slice(), into)
-}
-
-fn add_cuts(alloc: Global, of: &Cut, into: &mut String) -> Result<(), Bad> {
-    let bytes = of.bytes.as_slice();
-    for length in 0..=bytes.len() {
-        add_cut(alloc, of, bytes.get(..length).unwrap_or(bytes), into)?;
-    }
+pub(crate) fn cut_slice(parts: &[NamedBytes], given: &str, said: &mut Said) -> Result<(), Bad> {
+    let of = cut_of(said.alloc(), parts, given)?;
+    add_cut(&of, of.bytes.as_slice(), said);
     Ok(())
 }
 
+fn add_cuts(of: &Cut, said: &mut Said) {
+    let bytes = of.bytes.as_slice();
+    for length in 0..=bytes.len() {
+        add_cut(of, bytes.get(..length).unwrap_or(bytes), said);
+    }
+}
+
 /// The same of the first 0, 1, 2, .. and all of the bytes.
-pub(crate) fn cut_cuts(
-    alloc: Global,
-    parts: &[NamedBytes],
-    given: &str,
-    into: &mut String,
-) -> Result<(), Bad> {
-    let of = cut_of(alloc, parts, given)?;
-    add_cuts(alloc, &of, into)
+pub(crate) fn cut_cuts(parts: &[NamedBytes], given: &str, said: &mut Said) -> Result<(), Bad> {
+    add_cuts(&cut_of(said.alloc(), parts, given)?, said);
+    Ok(())
 }
 
 fn slice_count(plan: &Plan) -> u32
@@ -107,12 +96,10 @@ pub(crate) fn shared(bytes: Vec<u8>) -> Result<Bytes, Bad> {
     }
 }
 
-// A slice that is decoded: plan : number of the slice : its bytes.
-fn job_of(alloc: Global, parts: &[NamedBytes], given: &str) -> Result<SliceJob, Bad> {
-    let (plan, rest) = parted(given)?;
-    let (index, bytes) = parted(rest)?;
-    let (plan, index) = plan_and_slice(alloc, parts, plan, index)?;
-    let bytes = shared(bytes_of(alloc, parts, bytes)?)?;
+// A whole slice of a plan.
+fn whole(plan: Plan, index: u32, bytes: Bytes) -> Result<SliceJob, Bad>
+    requires { index < slice_count (parameters_of plan) }
+{
     match cut(plan.prefix, plan.scaler, bytes.as_slice()) {
         Ok(length) if length == bytes.len() => Ok(SliceJob {
             plan,
@@ -124,32 +111,27 @@ fn job_of(alloc: Global, parts: &[NamedBytes], given: &str) -> Result<SliceJob, 
     }
 }
 
-pub(crate) fn add_numbers(
-    alloc: Global,
-    into: &mut String,
-    name: &str,
-    numbers: &CoefficientList<'_>,
-) -> Result<(), Bad> {
-    add_word(into, name)?;
+// A slice that is decoded: plan : number of the slice : its bytes.
+fn job_of(alloc: Global, parts: &[NamedBytes], given: &str) -> Result<SliceJob, Bad> {
+    let (plan, rest) = parted(given)?;
+    let (index, bytes) = parted(rest)?;
+    let (plan, index) = plan_and_slice(alloc, parts, plan, index)?;
+    whole(plan, index, shared(bytes_of(alloc, parts, bytes)?)?)
+}
+
+/// Coefficients behind the name of their component.
+pub(crate) fn add_numbers(name: &str, numbers: &CoefficientList<'_>, said: &mut Said) {
+    said.word(name);
     for place in 0..numbers.len() {
-        add_number(alloc, into, i128::from(numbers.get(place)))?;
+        said.word(numbers.get(place));
     }
-    Ok(())
 }
 
-pub(crate) fn add_coefficients(
-    alloc: Global,
-    coeffs: &SliceCoeffs,
-    into: &mut String,
-) -> Result<(), Bad> {
-    add_numbers(alloc, into, "y", &coeffs.component(Component::Y))?;
-    add_numbers(alloc, into, "c1", &coeffs.component(Component::C1))?;
-    add_numbers(alloc, into, "c2", &coeffs.component(Component::C2))
-}
-
-pub(crate) fn add_fault(alloc: Global, why: Unsound, into: &mut String) -> Result<(), Bad> {
-    let word = format!(in alloc; "{why:?}")?;
-    add_word(into, word.as_str())
+/// A slice's coefficients.
+pub(crate) fn add_coefficients(coeffs: &SliceCoeffs, said: &mut Said) {
+    add_numbers("y", &coeffs.component(Component::Y), said);
+    add_numbers("c1", &coeffs.component(Component::C1), said);
+    add_numbers("c2", &coeffs.component(Component::C2), said);
 }
 
 fn decoded(alloc: Global, parts: &[NamedBytes], given: &str) -> Result<SliceDone, Bad> {
@@ -158,17 +140,13 @@ fn decoded(alloc: Global, parts: &[NamedBytes], given: &str) -> Result<SliceDone
 }
 
 /// The coefficients of a slice, or why it has none: plan : number of the slice : its bytes.
-pub(crate) fn slice(
-    alloc: Global,
-    parts: &[NamedBytes],
-    given: &str,
-    into: &mut String,
-) -> Result<(), Bad> {
-    let done = decoded(alloc, parts, given)?;
+pub(crate) fn slice(parts: &[NamedBytes], given: &str, said: &mut Said) -> Result<(), Bad> {
+    let done = decoded(said.alloc(), parts, given)?;
     match &done.answer {
-        Ok(coeffs) => add_coefficients(alloc, coeffs, into),
-        Err(why) => add_fault(alloc, *why, into),
+        Ok(coeffs) => add_coefficients(coeffs, said),
+        Err(why) => said.shown(*why),
     }
+    Ok(())
 }
 
 fn bits_of(coeffs: &SliceCoeffs) -> &'static str {
@@ -179,17 +157,13 @@ fn bits_of(coeffs: &SliceCoeffs) -> &'static str {
 }
 
 /// In how many bits the coefficients of a slice are kept.
-pub(crate) fn slice_kept(
-    alloc: Global,
-    parts: &[NamedBytes],
-    given: &str,
-    into: &mut String,
-) -> Result<(), Bad> {
-    let done = decoded(alloc, parts, given)?;
+pub(crate) fn slice_kept(parts: &[NamedBytes], given: &str, said: &mut Said) -> Result<(), Bad> {
+    let done = decoded(said.alloc(), parts, given)?;
     match &done.answer {
-        Ok(coeffs) => add_word(into, bits_of(coeffs)),
-        Err(_) => Err(Bad::NoRow),
+        Ok(coeffs) => said.word(bits_of(coeffs)),
+        Err(_) => return Err(Bad::NoRow),
     }
+    Ok(())
 }
 
 // ---- encoding
@@ -232,17 +206,23 @@ fn of_slice(plan: &Plan, slice: u32, coeffs: SliceCoeffs) -> Result<SliceCoeffs,
     }
 }
 
-// The coefficients of three components: y 1 2 c1 0*2 c2 0*2.
-fn coefficients_of_text(alloc: Global, text: &str) -> Result<SliceCoeffs, Bad> {
+// What stands of each of three components: y 1 2 c1 0*2 c2 0*2.
+fn components_of(text: &str) -> Result<(&str, &str, &str), Bad> {
     let Some((y, rest)) = text.split_once("c1") else {
         return Err(Bad::NoRow);
     };
     let Some((c1, c2)) = rest.split_once("c2") else {
         return Err(Bad::NoRow);
     };
-    let Some(y) = y.trim().strip_prefix('y') else {
-        return Err(Bad::NoRow);
-    };
+    match y.trim().strip_prefix('y') {
+        Some(y) => Ok((y, c1, c2)),
+        None => Err(Bad::NoRow),
+    }
+}
+
+// The coefficients of three components.
+fn coefficients_of_text(alloc: Global, text: &str) -> Result<SliceCoeffs, Bad> {
+    let (y, c1, c2) = components_of(text)?;
     let y = long_numbers(alloc, y)?;
     let (c1, c2) = (long_numbers(alloc, c1)?, long_numbers(alloc, c2)?);
     Ok(SliceCoeffs::joined(alloc, y.as_slice(), c1.as_slice(), c2.as_slice())?)
@@ -275,10 +255,10 @@ fn narrowed(alloc: Global, coeffs: &SliceCoeffs) -> Result<Option<SliceCoeffs>, 
 }
 
 // A quantisation index.
-fn index_of(number: u32) -> Result<u8, Bad>
+fn index_of(word: &str) -> Result<u8, Bad>
     ensures { IfOk result (λ index. index ≤ 127) }
 {
-    match u8::try_from(number) {
+    match u8::try_from(natural(word)?) {
         Ok(index) if index <= 127 => Ok(index),
         _ => Err(Bad::NoRow),
     }
@@ -324,115 +304,115 @@ fn narrowed_slice(alloc: Global, wide: &PlannedSlice) -> Result<Option<PlannedSl
     }
 }
 
-// Adds the bytes of a slice at an index, or how many it would have.
-fn add_encoded(alloc: Global, of: &PlannedSlice, index: u32, into: &mut String) -> Result<(), Bad> {
-    let index = index_of(index)?;
-    match encode(alloc, &of.plan, of.slice, &of.coeffs, index) {
-        Ok(bytes) => add_bytes(alloc, into, bytes.as_slice()),
-        Err(EncodeRefusal::TooLong { bytes }) => {
-            add_word(into, "TooLong")?;
-            add_number(alloc, into, bytes as i128)
-        }
-        Err(EncodeRefusal::NoMemory) => Err(Bad::NoMemory),
-    }
+// A slice with its coefficients in 64 bits and, where they fit, in 32.
+#[derive(Drop)]
+struct Widths {
+    wide: PlannedSlice,
+    narrow: Option<PlannedSlice>,
 }
 
-fn encoded(alloc: Global, of: &PlannedSlice, index: u32) -> Result<String, Bad> {
-    let mut all = String::new(alloc);
-    add_encoded(alloc, of, index, &mut all)?;
-    Ok(all)
+// plan : number of the slice : what is asked of it : coefficients.
+fn asked<'a>(
+    alloc: Global,
+    parts: &[NamedBytes],
+    given: &'a str,
+) -> Result<(Widths, &'a str), Bad> {
+    let (plan, rest) = parted(given)?;
+    let (slice, rest) = parted(rest)?;
+    let (asked, coefficients) = parted(rest)?;
+    let wide = planned_slice_of(alloc, parts, plan, slice, coefficients)?;
+    let narrow = narrowed_slice(alloc, &wide)?;
+    Ok((Widths { wide, narrow }, asked))
+}
+
+// Adds the bytes of a slice at an index, or how many it would have.
+fn add_encoded(of: &PlannedSlice, index: u8, said: &mut Said) -> Result<(), Bad>
+    requires { index ≤ 127 }
+{
+    match encode(said.alloc(), &of.plan, of.slice, &of.coeffs, index) {
+        Ok(bytes) => said.bytes(bytes.as_slice()),
+        Err(EncodeRefusal::TooLong { bytes }) => write!(said, "TooLong {bytes} "),
+        Err(EncodeRefusal::NoMemory) => return Err(Bad::NoMemory),
+    }
+    Ok(())
+}
+
+fn encoded(alloc: Global, of: &PlannedSlice, index: u8) -> Result<String, Bad>
+    requires { index ≤ 127 }
+{
+    let mut said = Said::new(alloc);
+    add_encoded(of, index, &mut said)?;
+    said.into_text()
 }
 
 // Adds what is found of a slice in 64 bits, and what is in 32, where it differs.
-fn add_both(in_64: &str, in_32: &str, into: &mut String) -> Result<(), Bad> {
-    add_word(into, in_64)?;
-    if in_64 == in_32 {
-        return Ok(());
+fn add_both(in_64: &str, in_32: &str, said: &mut Said) {
+    said.word(in_64);
+    if in_64 != in_32 {
+        write!(said, "in 64 bits, in 32 {in_32}");
     }
-    add_pieces(into, &["in 64 bits, in 32 ", in_32])
+}
+
+fn add_written(of: &Widths, index: u8, said: &mut Said) -> Result<(), Bad>
+    requires { index ≤ 127 }
+{
+    let Some(narrow) = &of.narrow else {
+        return add_encoded(&of.wide, index, said);
+    };
+    let in_64 = encoded(said.alloc(), &of.wide, index)?;
+    let in_32 = encoded(said.alloc(), narrow, index)?;
+    add_both(in_64.as_str(), in_32.as_str(), said);
+    Ok(())
 }
 
 /// The bytes of a slice, or TooLong and how many it would have. Given is
 /// plan : number of the slice : quantisation index : coefficients.
 /// These are encoded in 64 bits and, where they fit, in 32: what differs is told too.
-pub(crate) fn slice_written(
-    alloc: Global,
-    parts: &[NamedBytes],
-    given: &str,
-    into: &mut String,
-) -> Result<(), Bad> {
-    let (plan, rest) = parted(given)?;
-    let (slice, rest) = parted(rest)?;
-    let (index, coefficients) = parted(rest)?;
-    let index = natural(index)?;
-    let wide = planned_slice_of(alloc, parts, plan, slice, coefficients)?;
-    match narrowed_slice(alloc, &wide)? {
-        Some(narrow) => {
-            let in_64 = encoded(alloc, &wide, index)?;
-            let in_32 = encoded(alloc, &narrow, index)?;
-            add_both(in_64.as_str(), in_32.as_str(), into)
-        }
-        None => add_encoded(alloc, &wide, index, into),
-    }
+pub(crate) fn slice_written(parts: &[NamedBytes], given: &str, said: &mut Said) -> Result<(), Bad> {
+    let (of, index) = asked(said.alloc(), parts, given)?;
+    add_written(&of, index_of(index)?, said)
 }
 
 // Adds the length of a slice at an index, and what was found at once, where it differs.
-fn add_length(
-    alloc: Global,
-    of: &PlannedSlice,
-    index: u32,
-    at_once: &[u64],
-    into: &mut String,
-) -> Result<(), Bad> {
-    let index = index_of(index)?;
+fn add_length(of: &PlannedSlice, index: u8, at_once: &[u64], said: &mut Said)
+    requires { index ≤ 127 }
+{
     let length = encoded_len(&of.plan, of.slice, &of.coeffs, index);
-    add_number(alloc, into, i128::from(length))?;
+    said.word(length);
     let other = at_once.get(usize::from(index)).copied().unwrap_or(0);
-    if length == other {
-        return Ok(());
+    if length != other {
+        write!(said, "alone, at once {other} ");
     }
-    add_word(into, "alone, at once")?;
-    add_number(alloc, into, i128::from(other))
 }
 
-fn add_lengths(
-    alloc: Global,
-    of: &PlannedSlice,
-    indices: &str,
-    into: &mut String,
-) -> Result<(), Bad> {
-    let at_once = encoded_lens(alloc, &of.plan, of.slice, &of.coeffs)?;
-    for index in indices.split_whitespace() {
-        add_length(alloc, of, natural(index)?, at_once.as_slice(), into)?;
+fn add_lengths(of: &PlannedSlice, indices: &str, said: &mut Said) -> Result<(), Bad> {
+    let at_once = encoded_lens(said.alloc(), &of.plan, of.slice, &of.coeffs)?;
+    for word in indices.split_whitespace() {
+        add_length(of, index_of(word)?, at_once.as_slice(), said);
     }
     Ok(())
 }
 
 fn lengths(alloc: Global, of: &PlannedSlice, indices: &str) -> Result<String, Bad> {
-    let mut all = String::new(alloc);
-    add_lengths(alloc, of, indices, &mut all)?;
-    Ok(all)
+    let mut said = Said::new(alloc);
+    add_lengths(of, indices, &mut said)?;
+    said.into_text()
+}
+
+fn add_all_lengths(of: &Widths, indices: &str, said: &mut Said) -> Result<(), Bad> {
+    let Some(narrow) = &of.narrow else {
+        return add_lengths(&of.wide, indices, said);
+    };
+    let in_64 = lengths(said.alloc(), &of.wide, indices)?;
+    let in_32 = lengths(said.alloc(), narrow, indices)?;
+    add_both(in_64.as_str(), in_32.as_str(), said);
+    Ok(())
 }
 
 /// The lengths of a slice at some indices, each found alone and all at once. Given is
 /// plan : number of the slice : the indices : coefficients.
 /// They are found in 64 bits and, where the coefficients fit, in 32: what differs is told too.
-pub(crate) fn slice_lengths(
-    alloc: Global,
-    parts: &[NamedBytes],
-    given: &str,
-    into: &mut String,
-) -> Result<(), Bad> {
-    let (plan, rest) = parted(given)?;
-    let (slice, rest) = parted(rest)?;
-    let (indices, coefficients) = parted(rest)?;
-    let wide = planned_slice_of(alloc, parts, plan, slice, coefficients)?;
-    match narrowed_slice(alloc, &wide)? {
-        Some(narrow) => {
-            let in_64 = lengths(alloc, &wide, indices)?;
-            let in_32 = lengths(alloc, &narrow, indices)?;
-            add_both(in_64.as_str(), in_32.as_str(), into)
-        }
-        None => add_lengths(alloc, &wide, indices, into),
-    }
+pub(crate) fn slice_lengths(parts: &[NamedBytes], given: &str, said: &mut Said) -> Result<(), Bad> {
+    let (of, indices) = asked(said.alloc(), parts, given)?;
+    add_all_lengths(&of, indices, said)
 }

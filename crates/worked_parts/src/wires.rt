@@ -3,7 +3,8 @@ ghost use Rattle.std.specs.Prelude.{◌≡◌, ◌≤◌, IfOk, IsTrue, OnOk, le
 ghost use Rattle.vc_ports.specs.MemoryWires.{AreDatagrams, datagrams_in};
 
 use crate::ports::{add_front, fails};
-use crate::words::{add_bytes, add_word, bytes_of, natural, parted};
+use crate::said::Said;
+use crate::words::{bytes_of, natural, parted};
 use std::alloc::Global;
 use vc_ports::{Came, MemWire, PlainWire, Reached, Sent, Wire};
 use worked_common::{Bad, NamedBytes};
@@ -28,7 +29,7 @@ fn aim<N: Wire>(wire: &mut N) -> bool
     }
 }
 
-fn add_sent<N: Wire>(wire: &mut N, datagram: &[u8], into: &mut String) -> Result<(), Bad>
+fn add_sent<N: Wire>(wire: &mut N, datagram: &[u8], said: &mut Said) -> Result<(), Bad>
     requires { IsTrue (N.told wire.old).listens × IsTrue (N.told wire.old).aimed }
     ensures { OnOk result (IsTrue (N.told wire.new).listens) }
 {
@@ -36,9 +37,10 @@ fn add_sent<N: Wire>(wire: &mut N, datagram: &[u8], into: &mut String) -> Result
         return Err(Bad::NoRow);
     }
     match wire.send(datagram) {
-        Sent::Yes | Sent::Lost => add_word(into, "sent"),
-        Sent::Failed => add_word(into, "failed"),
+        Sent::Yes | Sent::Lost => said.word("sent"),
+        Sent::Failed => said.word("failed"),
     }
+    Ok(())
 }
 
 // A buffer that has room for any datagram.
@@ -49,45 +51,38 @@ fn buffer(alloc: Global) -> Result<Vec<u8>, Bad>
     Ok(buffer)
 }
 
-fn add_datagram_text(
-    alloc: Global,
-    buffer: &[u8],
-    count: usize,
-    into: &mut String,
-) -> Result<(), Bad> {
-    add_word(into, "came")?;
-    add_front(alloc, buffer, count, into)
+fn add_came(buffer: &[u8], count: usize, said: &mut Said) -> Result<(), Bad> {
+    said.word("came");
+    add_front(buffer, count, said)
 }
 
-fn add_received<N: Wire>(alloc: Global, wire: &mut N, into: &mut String) -> Result<(), Bad>
+fn add_received<N: Wire>(wire: &mut N, said: &mut Said) -> Result<(), Bad>
     requires { IsTrue (N.told wire.old).listens }
     ensures { OnOk result (IsTrue (N.told wire.new).listens) }
 {
-    let mut buffer = buffer(alloc)?;
+    let mut buffer = buffer(said.alloc())?;
     match wire.recv(buffer.as_mut_slice()) {
-        Came::Datagram(count) => add_datagram_text(alloc, buffer.as_slice(), count, into),
-        Came::End => add_word(into, "end"),
-        Came::Failed => add_word(into, "failed"),
+        Came::Datagram(count) => return add_came(buffer.as_slice(), count, said),
+        Came::End => said.word("end"),
+        Came::Failed => said.word("failed"),
     }
+    Ok(())
 }
 
 // Opens a wire, sends one datagram over it, and receives thrice.
-fn exchange<N: Wire>(
-    alloc: Global,
-    wire: &mut N,
-    datagram: &[u8],
-    into: &mut String,
-) -> Result<(), Bad> {
+fn exchange<N: Wire>(wire: &mut N, datagram: &[u8], said: &mut Said) -> Result<(), Bad> {
     if !listen(wire) {
-        return add_word(into, "doesn't-listen");
+        said.word("doesn't-listen");
+        return Ok(());
     }
     if !aim(wire) {
-        return add_word(into, "isn't-aimed");
+        said.word("isn't-aimed");
+        return Ok(());
     }
-    add_sent(wire, datagram, into)?;
-    add_received(alloc, wire, into)?;
-    add_received(alloc, wire, into)?;
-    add_received(alloc, wire, into)
+    add_sent(wire, datagram, said)?;
+    add_received(wire, said)?;
+    add_received(wire, said)?;
+    add_received(wire, said)
 }
 
 fn add_datagram(all: &mut Vec<Vec<u8>>, one: Vec<u8>) -> Result<(), Bad>
@@ -127,48 +122,36 @@ fn memory(alloc: Global, parts: &[NamedBytes], front: &str, coming: &str) -> Res
 }
 
 // Adds what is kept at the first place of a list, if there is anything.
-fn add_kept(alloc: Global, what: &str, kept: Option<&[u8]>, into: &mut String) -> Result<(), Bad> {
-    match kept {
-        Some(bytes) => {
-            add_word(into, what)?;
-            add_bytes(alloc, into, bytes)
-        }
-        None => Ok(()),
+fn add_kept(what: &str, kept: Option<&[u8]>, said: &mut Said) {
+    if let Some(bytes) = kept {
+        said.word(what);
+        said.bytes(bytes);
     }
 }
 
 // Adds where the wire listened and sent to at first, and the first two datagrams sent.
-fn add_all_kept(alloc: Global, wire: &MemWire, into: &mut String) -> Result<(), Bad> {
-    add_kept(alloc, "at", wire.at(0), into)?;
-    add_kept(alloc, "to", wire.to(0), into)?;
-    add_kept(alloc, "kept", wire.sent(0), into)?;
-    add_kept(alloc, "more", wire.sent(1), into)
+fn add_all_kept(wire: &MemWire, said: &mut Said) {
+    add_kept("at", wire.at(0), said);
+    add_kept("to", wire.to(0), said);
+    add_kept("kept", wire.sent(0), said);
+    add_kept("more", wire.sent(1), said);
 }
 
 /// What an exchange over a wire in memory comes to, and what the wire keeps of it.
-pub(crate) fn memory_wire(
-    alloc: Global,
-    parts: &[NamedBytes],
-    given: &str,
-    into: &mut String,
-) -> Result<(), Bad> {
+pub(crate) fn memory_wire(parts: &[NamedBytes], given: &str, said: &mut Said) -> Result<(), Bad> {
     let (front, rest) = parted(given)?;
     let (coming, sent) = parted(rest)?;
-    let mut wire = memory(alloc, parts, front, coming)?;
-    let sent = bytes_of(alloc, parts, sent)?;
-    exchange(alloc, &mut wire, sent.as_slice(), into)?;
-    add_all_kept(alloc, &wire, into)
+    let mut wire = memory(said.alloc(), parts, front, coming)?;
+    let sent = bytes_of(said.alloc(), parts, sent)?;
+    exchange(&mut wire, sent.as_slice(), said)?;
+    add_all_kept(&wire, said);
+    Ok(())
 }
 
 /// What an exchange over a wire that never fails comes to.
-pub(crate) fn plain_wire(
-    alloc: Global,
-    parts: &[NamedBytes],
-    given: &str,
-    into: &mut String,
-) -> Result<(), Bad> {
+pub(crate) fn plain_wire(parts: &[NamedBytes], given: &str, said: &mut Said) -> Result<(), Bad> {
     let (coming, sent) = parted(given)?;
-    let mut wire = PlainWire::new(datagrams(alloc, parts, coming)?);
-    let sent = bytes_of(alloc, parts, sent)?;
-    exchange(alloc, &mut wire, sent.as_slice(), into)
+    let mut wire = PlainWire::new(datagrams(said.alloc(), parts, coming)?);
+    let sent = bytes_of(said.alloc(), parts, sent)?;
+    exchange(&mut wire, sent.as_slice(), said)
 }

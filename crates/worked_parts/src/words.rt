@@ -1,4 +1,5 @@
 //! The words of rows: numbers, and bytes as pairs of digits.
+use crate::said::Said;
 use std::alloc::Global;
 use worked_common::{Bad, NamedBytes, put};
 
@@ -102,94 +103,6 @@ pub(crate) fn samples(alloc: Global, text: &str) -> Result<Vec<u16>, Bad> {
     Ok(samples)
 }
 
-/// Adds a word to a text, and a space.
-pub(crate) fn add_word(into: &mut String, word: &str) -> Result<(), Bad> {
-    into.push_str(word)?;
-    into.push_str(" ")?;
-    Ok(())
-}
-
-/// Adds a number to a text, and a space.
-pub(crate) fn add_number(alloc: Global, into: &mut String, number: i128) -> Result<(), Bad> {
-    let word = format!(in alloc; "{number} ")?;
-    into.push_str(word.as_str())?;
-    Ok(())
-}
-
-/// Adds pieces to a text, one after another.
-pub(crate) fn add_pieces(into: &mut String, pieces: &[&str]) -> Result<(), Bad> {
-    for piece in pieces {
-        into.push_str(piece)?;
-    }
-    Ok(())
-}
-
-/// Adds numbers to a text, each after its name.
-pub(crate) fn add_named(
-    alloc: Global,
-    into: &mut String,
-    numbers: &[(&str, u32)],
-) -> Result<(), Bad> {
-    for (name, number) in numbers {
-        add_word(into, name)?;
-        add_number(alloc, into, i128::from(*number))?;
-    }
-    Ok(())
-}
-
-/// Adds bytes to a text, each as two digits and a space.
-pub(crate) fn add_bytes(alloc: Global, into: &mut String, bytes: &[u8]) -> Result<(), Bad> {
-    for byte in bytes {
-        let word = format!(in alloc; "{byte:02x} ")?;
-        into.push_str(word.as_str())?;
-    }
-    Ok(())
-}
-
-/// Adds numbers to a text.
-pub(crate) fn add_numbers(alloc: Global, into: &mut String, numbers: &[i128]) -> Result<(), Bad> {
-    for number in numbers {
-        add_number(alloc, into, *number)?;
-    }
-    Ok(())
-}
-
-/// Adds numbers of 64 bits to a text.
-pub(crate) fn add_long(alloc: Global, into: &mut String, numbers: &[i64]) -> Result<(), Bad> {
-    for number in numbers {
-        add_number(alloc, into, i128::from(*number))?;
-    }
-    Ok(())
-}
-
-/// Adds numbers of 32 bits to a text.
-pub(crate) fn add_short(alloc: Global, into: &mut String, numbers: &[i32]) -> Result<(), Bad> {
-    for number in numbers {
-        add_number(alloc, into, i128::from(*number))?;
-    }
-    Ok(())
-}
-
-/// A text of numbers of 32 bits.
-pub(crate) fn text_of_short(alloc: Global, numbers: &[i32]) -> Result<String, Bad> {
-    let mut all = String::new(alloc);
-    add_short(alloc, &mut all, numbers)?;
-    Ok(all)
-}
-
-/// Adds samples to a text.
-pub(crate) fn add_samples(alloc: Global, into: &mut String, samples: &[u16]) -> Result<(), Bad> {
-    for sample in samples {
-        add_number(alloc, into, i128::from(*sample))?;
-    }
-    Ok(())
-}
-
-/// A text of one word.
-pub(crate) fn text(alloc: Global, word: &str) -> Result<String, Bad> {
-    Ok(String::from_str(alloc, word)?)
-}
-
 /// The bytes that a text says.
 pub(crate) fn bytes_of(alloc: Global, parts: &[NamedBytes], text: &str) -> Result<Vec<u8>, Bad> {
     let mut bytes = Vec::new(alloc);
@@ -198,29 +111,25 @@ pub(crate) fn bytes_of(alloc: Global, parts: &[NamedBytes], text: &str) -> Resul
 }
 
 /// The sum of numbers, each times its place, counted from 1.
-pub(crate) fn weighed(numbers: &[i128]) -> i128 {
+pub(crate) fn weighed<N: Copy + Into<i128>>(numbers: &[N]) -> i128 {
     let mut sum: i128 = 0;
     let mut place: i128 = 1;
     for number in numbers {
+        let number: i128 = (*number).into();
         sum = sum.wrapping_add(number.wrapping_mul(place));
         place = place.wrapping_add(1);
     }
     sum
 }
 
-fn spread_word(
-    alloc: Global,
-    parts: &[NamedBytes],
-    word: &str,
-    into: &mut String,
-) -> Result<(), Bad> {
+fn spread_word(parts: &[NamedBytes], word: &str, said: &mut Said) -> Result<(), Bad> {
     if word.starts_with('@') {
-        let bytes = bytes_of(alloc, parts, word)?;
-        return add_bytes(alloc, into, bytes.as_slice());
+        said.bytes(bytes_of(said.alloc(), parts, word)?.as_slice());
+        return Ok(());
     }
     let (word, count) = times(word)?;
     for _ in 0..count {
-        add_word(into, word)?;
+        said.word(word);
     }
     Ok(())
 }
@@ -228,9 +137,9 @@ fn spread_word(
 /// The words of a text, with one space behind each: many of a word where it is as 0*64, and the bytes of
 /// parts.
 pub(crate) fn spread(alloc: Global, parts: &[NamedBytes], text: &str) -> Result<String, Bad> {
-    let mut all = String::new(alloc);
+    let mut said = Said::new(alloc);
     for word in text.split_whitespace() {
-        spread_word(alloc, parts, word, &mut all)?;
+        spread_word(parts, word, &mut said)?;
     }
-    Ok(all)
+    said.into_text()
 }
