@@ -11,7 +11,7 @@ use Rattle.frame_writer.proofs.ReadBack.{lens}
 use Rattle.frame_writer.specs.FrameBytes.{frame_of_bytes, planes_of_bytes, frame_length, length_in, sample_count, samples_of_bytes}
 use Rattle.frame_writer.specs.Memory.{planes_with}
 use Rattle.frame_writer.specs.Reading.{GaveFrame, GaveCutFrame, GavePartOfFrame, ReadsFrame}
-use Rattle.frame_writer.specs.Taking.{GaveSamples, GaveFewer, GaveLast, Takes, fault_of}
+use Rattle.frame_writer.specs.Taking.{GaveSamples, GaveFewer, GaveLast, Takes, read_fault_of}
 use Rattle.frame_writer.specs.declared.taking.Short.{Short}
 use Rattle.frame_writer.specs.declared.taking.Short.TheVariants.{End, Failed}
 
@@ -45,7 +45,7 @@ module _ (shape : Shape) (before mid after : Option (List ℕ)) (front : List �
     short = omega (arith, length-append front fewer.part, fewer.short, within);
   }
 
-  pub short_behind : (samples : List ℕ) (short : Short) → ((len : ℕ) → short ≡ End len → 0 < length front + len) → Takes (is_wide shape) count mid after samples (Err short) → ReadsFrame shape before after (Err (fault_of short))
+  pub short_behind : (samples : List ℕ) (short : Short) → ((len : ℕ) → short ≡ End len → 0 < length front + len) → Takes (is_wide shape) count mid after samples (Err short) → ReadsFrame shape before after (Err (read_fault_of short))
   short_behind samples (End len) some takes = cut_behind len (some len refl) takes
   short_behind samples Failed some takes = part_behind takes
 
@@ -70,7 +70,7 @@ module _ (shape : Shape) (before mid : Option (List ℕ)) (y : List ℕ) (took_y
     all false = some
 
   -- the first colour plane is short
-  pub short_first : (after : Option (List ℕ)) (samples : List ℕ) (short : Short) → 0 < sample_count shape Y → Takes (is_wide shape) (sample_count shape C1) mid after samples (Err short) → ReadsFrame shape before after (Err (fault_of short))
+  pub short_first : (after : Option (List ℕ)) (samples : List ℕ) (short : Short) → 0 < sample_count shape Y → Takes (is_wide shape) (sample_count shape C1) mid after samples (Err short) → ReadsFrame shape before after (Err (read_fault_of short))
   short_first after samples short some =
       short_behind shape before mid after took_y.bytes (sample_count shape C1) took_y.gave (omega (arith, took_y.whole, sum)) samples short (λ len is. omega (arith, took_y.whole, some_luma some))
 
@@ -79,7 +79,7 @@ module _ (shape : Shape) (before mid : Option (List ℕ)) (y : List ℕ) (took_y
     both = length-append took_y.bytes took_c1.bytes ∙ omega (arith, took_y.whole, took_c1.whole)
 
     -- the second is short
-    pub short_second : (after : Option (List ℕ)) (samples : List ℕ) (short : Short) → 0 < sample_count shape Y → Takes (is_wide shape) (sample_count shape C1) next after samples (Err short) → ReadsFrame shape before after (Err (fault_of short))
+    pub short_second : (after : Option (List ℕ)) (samples : List ℕ) (short : Short) → 0 < sample_count shape Y → Takes (is_wide shape) (sample_count shape C1) next after samples (Err short) → ReadsFrame shape before after (Err (read_fault_of short))
     short_second after samples short some =
         short_behind shape before next after (took_y.bytes ++ took_c1.bytes) (sample_count shape C1) (Gave-then before mid next took_y.bytes took_c1.bytes took_y.gave took_c1.gave) (omega (arith, both, sum)) samples short (λ len is. omega (arith, both, some_luma some))
 

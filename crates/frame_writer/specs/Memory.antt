@@ -15,7 +15,7 @@ pub record IsRoomFor (shape : Shape) (c : Component) (samples : Vec ℕ) : Type 
   pub none : vec_len samples ≡ 0
   pub room : sample_count shape c ≤ vec_capacity samples
 
-pub record HasRoomFor (shape : Shape) (m : PlaneMemory) : Type 0 where
+pub record HasRoomForPlanes (shape : Shape) (m : PlaneMemory) : Type 0 where
   pub y : IsRoomFor shape Y m.y
   pub c1 : IsRoomFor shape C1 m.c1
   pub c2 : IsRoomFor shape C2 m.c2

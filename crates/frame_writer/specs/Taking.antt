@@ -36,6 +36,6 @@ Takes two count before after samples (Err (End len)) = GaveLast (length_in two c
 Takes two count before after samples (Err Failed) = GaveFewer (length_in two count) before after
 
 -- why no frame was read, where not all samples of a plane were taken
-abbrev pub fault_of : Short → FrameReadFault
-fault_of (End len) = Cut
-fault_of Failed = ReadFault
+abbrev pub read_fault_of : Short → FrameReadFault
+read_fault_of (End len) = Cut
+read_fault_of Failed = ReadFault

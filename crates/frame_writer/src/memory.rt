@@ -1,6 +1,6 @@
 ghost use Rattle.std.specs.Prelude.{◌≡◌, ◌^◌, ◌<◌, IsTrue, IfOk};
 ghost use Rattle.frame_writer.specs.FrameBytes.{sample_count};
-ghost use Rattle.frame_writer.specs.Memory.{HasRoomFor, IsFilledFor, planes_with};
+ghost use Rattle.frame_writer.specs.Memory.{HasRoomForPlanes, IsFilledFor, planes_with};
 ghost use Rattle.vc_types.specs.declared.video.Component.TheVariants.{Y, C1};
 ghost use Rattle.vc_types.specs.Limits.{shape_fits};
 ghost use Rattle.vc_types.specs.Planes.{planes_in};
@@ -20,7 +20,7 @@ impl PlaneMemory {
     /// Room for the planes of a shape.
     pub(crate) fn new(alloc: Global, shape: &Shape) -> Result<PlaneMemory, AllocError>
         requires { IsTrue (shape_fits shape.now) }
-        ensures { IfOk result (HasRoomFor shape.now) }
+        ensures { IfOk result (HasRoomForPlanes shape.now) }
     {
         let colour = colour_count(shape);
         Ok(PlaneMemory {

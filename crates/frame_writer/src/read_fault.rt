@@ -1,5 +1,5 @@
 ghost use Rattle.std.specs.Prelude.{◌≡◌};
-ghost use Rattle.frame_writer.specs.Taking.{fault_of};
+ghost use Rattle.frame_writer.specs.Taking.{read_fault_of};
 ghost use Rattle.frame_writer.specs.declared.read_fault.FrameReadFault.TheVariants as fault;
 
 use crate::taking::Short;
@@ -24,7 +24,7 @@ impl From<AllocError> for FrameReadFault {
 }
 
 impl From<Short> for FrameReadFault {
-    ghost from_gives = { λ short e. e ≡ fault_of short };
+    ghost from_gives = { λ short e. e ≡ read_fault_of short };
 
     fn from(short: Short) -> Self {
         match short {

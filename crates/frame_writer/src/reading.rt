@@ -1,5 +1,5 @@
 ghost use Rattle.std.specs.Prelude.{◌≡◌, ◌≢◌, ◌≤◌, ◌*◌, Err, IsTrue, length};
-ghost use Rattle.frame_writer.specs.Memory.{HasRoomFor};
+ghost use Rattle.frame_writer.specs.Memory.{HasRoomForPlanes};
 ghost use Rattle.frame_writer.specs.Reading.{ReadsFrame};
 ghost use Rattle.frame_writer.specs.declared.taking.TheConstants.{PIECE};
 ghost use Rattle.vc_ports.specs.Faults.{HasCause};
@@ -43,7 +43,7 @@ fn take_planes<S: Source>(
 ) -> Result<Option<[Plane; 3]>, FrameReadFault>
     requires fits { IsTrue (shape_fits shape.now) }
     requires buffer { 2 * PIECE ≤ length buffer.old }
-    requires room { HasRoomFor shape.now memory }
+    requires room { HasRoomForPlanes shape.now memory }
     ensures frame { ReadsFrame shape.now (S.left source.old) (S.left source.new) result }
     ensures cause { HasCause (S.faults source.old) (S.faults source.new)
         (result ≡ Err FrameReadFault.ReadFault) }

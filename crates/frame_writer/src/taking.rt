@@ -1,4 +1,5 @@
-ghost use Rattle.std.specs.Prelude.{◌≡◌, ◌+◌, ◌*◌, ◌^◌, ◌<◌, ◌≤◌, ◌++◌, Err, OnOk, length, vec_capacity, vec_len};
+ghost use Rattle.std.specs.Prelude.{◌≡◌, ◌+◌, ◌*◌, ◌^◌, ◌<◌, ◌≤◌, ◌++◌};
+ghost use Rattle.std.specs.Prelude.{Err, OnOk, length, vec_capacity, vec_len};
 ghost use Rattle.frame_writer.specs.FrameBytes.{length_in, samples_of_bytes};
 ghost use Rattle.frame_writer.specs.Taking.{Takes};
 ghost use Rattle.frame_writer.specs.declared.taking.TheConstants.{PIECE};

@@ -1,8 +1,9 @@
-ghost use Rattle.std.specs.Prelude.{◌≡◌, ◌+◌, ◌-◌, ◌^◌, ◌<◌, ◌≤◌, IfSome, slice_index_or};
+ghost use Rattle.std.specs.Prelude.{◌≡◌, ◌+◌, ◌-◌, ◌^◌, ◌<◌, ◌≤◌, ◌↔◌, IfSome, IsSome, slice_index_or};
 ghost use Rattle.vc_types.specs.declared.video.Component.TheVariants.{Y, C1, C2};
 ghost use Rattle.vc_types.specs.OfPlan.{band_count, padded_height, padded_width, slice_count};
 ghost use Rattle.vc_types.specs.Subbands.{area};
 ghost use Rattle.vc_geometry.specs.OfPlan.{AreSliceRectangles};
+ghost use Rattle.vc_quant.specs.Narrow.{IsNarrow};
 
 use vc_geometry::{bands as band_count, slice_rects};
 use vc_quant::{NarrowQuantiser, Quantiser};
@@ -62,9 +63,17 @@ impl SliceParts {
         ensures bottom { result.y + result.height ≤ padded_height self.now.plan c }
         ensures range { (result.x + result.width ≤ 8192) × (result.y + result.height ≤ 8192) }
     {
+        self.rects(c)[b as usize]
+    }
+
+    // The parts of a component's subbands, in front of others.
+    #[inline(always)]
+    fn rects(&self, c: Component) -> &[Rect; 16]
+        ensures { AreSliceRectangles self.now.plan c self.now.slice result.now }
+    {
         match c {
-            Component::Y => self.luma[b as usize],
-            Component::C1 | Component::C2 => self.colour[b as usize],
+            Component::Y => &self.luma,
+            Component::C1 | Component::C2 => &self.colour,
         }
     }
 
@@ -124,8 +133,9 @@ impl<'a> SliceBands<'a> {
     /// those of its subbands are, at lower indexes.
     #[inline(always)]
     pub fn narrow(&self, greatest: u32) -> Option<NarrowQuantiser>
-        ensures { IfSome result
+        ensures same { IfSome result
             (λ narrow. (narrow.index ≡ self.now.index) × (narrow.greatest ≡ greatest)) }
+        ensures exactly { IsSome result ↔ IsNarrow greatest self.now.index }
     {
         Quantiser::new(self.index).narrow(greatest)
     }

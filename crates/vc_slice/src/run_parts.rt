@@ -55,9 +55,17 @@ impl RunParts {
         ensures bottom { result.y + result.height ≤ padded_height self.now.plan c }
         ensures range { (result.x + result.width ≤ 8192) × (result.y + result.height ≤ 8192) }
     {
+        self.rects(c)[b as usize]
+    }
+
+    // The parts of a component's subbands, in front of others.
+    #[inline(always)]
+    fn rects(&self, c: Component) -> &[Rect; 16]
+        ensures { AreRunRectangles self.now.plan c self.now.first self.now.count result.now }
+    {
         match c {
-            Component::Y => self.luma[b as usize],
-            Component::C1 | Component::C2 => self.colour[b as usize],
+            Component::Y => &self.luma,
+            Component::C1 | Component::C2 => &self.colour,
         }
     }
 

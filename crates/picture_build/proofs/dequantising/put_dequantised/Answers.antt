@@ -32,7 +32,7 @@ dequantise_rect-requires-clause-from c =
 pub dequantise_rect-requires-clause-small : goal.dequantise_rect-requires-clause-small
 dequantise_rect-requires-clause-small c = λ j h.
     let within = subband_within c.args.bands.now.parts.now c.args.c c.loop-b.b c.loop-b.from c.rect-rect.result (omega arith) c.rect-rect.ensures.value c.loop-b.invariant.from in
-    rw (c.lowered-quantiser.ensures.greatest, c.in-Some.ensures.1) (c.requires.small (c.loop-b.from + j) (omega (arith, within)))
+    rw (c.lowered-quantiser.ensures.greatest, c.in-Some.ensures.same.1) (c.requires.small (c.loop-b.from + j) (omega (arith, within)))
 
 pub overflow_mul-from : goal.overflow_mul-from
 overflow_mul-from c =
@@ -55,10 +55,10 @@ loop-b-preserved c =
     let new = c.dequantise_rect.new.cells in
     let q = c.lowered-quantiser.result in
     let own : q.index ≡ bands.index - slice_index_or parts.plan.matrix c.loop-b.b 0 =
-    omega (arith, c.lowered-quantiser.ensures.index, c.in-Some.ensures.0, c.matrix_entry.ensures) in
+    omega (arith, c.lowered-quantiser.ensures.index, c.in-Some.ensures.same.0, c.matrix_entry.ensures) in
     let within = subband_within parts c.args.c c.loop-b.b c.loop-b.from r (omega arith) c.rect-rect.ensures.value c.loop-b.invariant.from in
     let small : (j : ℕ) → j < area r → unsigned_abs (line_of numbers (c.loop-b.from + j)) ≤ q.greatest =
-    λ j h. rw (c.lowered-quantiser.ensures.greatest, c.in-Some.ensures.1) (c.requires.small (c.loop-b.from + j) (omega (arith, within))) in
+    λ j h. rw (c.lowered-quantiser.ensures.greatest, c.in-Some.ensures.same.1) (c.requires.small (c.loop-b.from + j) (omega (arith, within))) in
     let here = coefficient_in bands c.args.c numbers c.loop-b.b c.loop-b.from q.index r (omega arith) c.rect-rect.ensures.value c.loop-b.invariant.from own in
     let on = λ (j : ℕ) (h : j < area r). c.dequantise_rect.ensures.on j h ∙ here j h in
     record {

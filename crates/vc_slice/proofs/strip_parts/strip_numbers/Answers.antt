@@ -51,7 +51,7 @@ put_part-requires-clause-from c =
 pub put_part-requires-clause-small : goal.put_part-requires-clause-small
 put_part-requires-clause-small c = λ j h.
     let within = part_within c.args.run.now c.args.bands.now.parts.now c.requires.own c.args.c c.loop-b.b c.loop-b.from c.loop-b.base c.rect-part.result c.rect-whole.result (omega arith) c.rect-part.ensures.value c.rect-whole.ensures.value c.loop-b.invariant.from c.loop-b.invariant.base in
-    rw (c.lowered-quantiser.ensures.greatest, c.in-Some.ensures.1) (c.requires.small (c.loop-b.from + j) (omega (arith, within)))
+    rw (c.lowered-quantiser.ensures.greatest, c.in-Some.ensures.same.1) (c.requires.small (c.loop-b.from + j) (omega (arith, within)))
 
 pub overflow_add-from : goal.overflow_add-from
 overflow_add-from c =
@@ -78,12 +78,12 @@ loop-b-preserved c =
     let new = c.put_part.new.strip in
     let q = c.lowered-quantiser.result in
     let own : q.index ≡ bands.index - slice_index_or parts.plan.matrix b 0 =
-    omega (arith, c.lowered-quantiser.ensures.index, c.in-Some.ensures.0, c.matrix_entry.ensures) in
+    omega (arith, c.lowered-quantiser.ensures.index, c.in-Some.ensures.same.0, c.matrix_entry.ensures) in
     let bands_alike = same_bands run parts c.requires.own c.args.c in
     let within = part_within run parts c.requires.own c.args.c b from base part whole (omega arith) c.rect-part.ensures.value c.rect-whole.ensures.value c.loop-b.invariant.from c.loop-b.invariant.base in
     let cells = there run parts c.requires.own c.args.c b from base part whole (omega arith) c.rect-part.ensures.value c.rect-whole.ensures.value c.loop-b.invariant.from c.loop-b.invariant.base in
     let small : (j : ℕ) → j < area part → unsigned_abs (line_of numbers (from + j)) ≤ q.greatest =
-    λ j h. rw (c.lowered-quantiser.ensures.greatest, c.in-Some.ensures.1) (c.requires.small (from + j) (omega (arith, within))) in
+    λ j h. rw (c.lowered-quantiser.ensures.greatest, c.in-Some.ensures.same.1) (c.requires.small (from + j) (omega (arith, within))) in
     let here = coefficient_in bands c.args.c numbers b from q.index part (omega (arith, bands_alike)) c.rect-part.ensures.value c.loop-b.invariant.from own in
     let on = λ (j : ℕ) (h : j < area part). c.put_part.ensures.on j h ∙ here j h in
     let cell = λ (j : ℕ). base + cell_of whole (place_in part j) in
