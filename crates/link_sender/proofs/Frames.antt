@@ -22,7 +22,7 @@ use Rattle.link_sender.specs.Sent.{AreEncoded, ArePictures, IsPicture, IsRefused
 use Rattle.link_sender.proofs.SampleFaults.{none_rest, says_first, says_rest}
 use Rattle.picture_encode.specs.declared.refusal.SliceRefusal.{SliceRefusal}
 use Rattle.picture_encode.specs.declared.refusal.SliceRefusal.TheVariants.{SliceTooLarge, NoMemory}
-use Rattle.picture_encode.specs.declared.slices.EncodedSlice.{EncodedSlice}
+use Rattle.picture_encode.specs.IndexedSlices.{IndexedSlice}
 use Rattle.picture_encode.specs.Encoded.{Chooses, AreFirstAnswers, AreFirstSlices, IsRefusedPicture, indices_of, bytes_of_slices}
 use Rattle.picture_encode.specs.Refusals.{Tells}
 use Rattle.vc_types.specs.Planes.{Planes}
@@ -79,7 +79,7 @@ module _ (choice : Chooses) (wanted : Bool) (s : Sending) where
 
   -- ---- all pictures
 
-  record AreAnswered (pictures : List Planes) (coded : List (List EncodedSlice)) : Type 0 where
+  record AreAnswered (pictures : List Planes) (coded : List (List IndexedSlice)) : Type 0 where
     indices : List ℕ
     answers : AllZip choice (flat_map needs pictures) indices
     fit : first_slice_fault s indices pictures ≡ None
@@ -89,7 +89,7 @@ module _ (choice : Chooses) (wanted : Bool) (s : Sending) where
   unfolding first_slice_fault pictures_outgoing
   no_picture = record { indices = []; answers = tt; fit = refl; outgoing_are = λ picture. refl }
 
-  all_answered : (pictures : List Planes) (coded : List (List EncodedSlice)) → AreEncoded choice wanted s pictures coded → AreAnswered pictures coded
+  all_answered : (pictures : List Planes) (coded : List (List IndexedSlice)) → AreEncoded choice wanted s pictures coded → AreAnswered pictures coded
   all_answered [] [] are = no_picture
   all_answered [] (slices ∷ coded) are = absurd are
   all_answered (planes ∷ pictures) [] are = absurd are
@@ -140,7 +140,7 @@ module _ (choice : Chooses) (wanted : Bool) (s : Sending) where
         fault = told planes pictures is.indices e few is.fault;
       }
 
-  pub later_refused : (planes : Planes) (slices : List EncodedSlice) (pictures : List Planes) (e : SliceRefusal) → AreFirstSlices choice wanted s planes count slices → OneIsTooLarge choice wanted s pictures e → OneIsTooLarge choice wanted s (planes ∷ pictures) e
+  pub later_refused : (planes : Planes) (slices : List IndexedSlice) (pictures : List Planes) (e : SliceRefusal) → AreFirstSlices choice wanted s planes count slices → OneIsTooLarge choice wanted s pictures e → OneIsTooLarge choice wanted s (planes ∷ pictures) e
   later_refused planes slices pictures e first is =
       let own = indices_of slices in
       record {
@@ -164,10 +164,10 @@ module _ (choice : Chooses) (wanted : Bool) (s : Sending) where
   unfolding sent_parameters
   count_is = refl
 
-  pub is_picture : (planes : Planes) (slices : List EncodedSlice) → AreFirstSlices choice wanted s planes count slices → IsPicture s slices
+  pub is_picture : (planes : Planes) (slices : List IndexedSlice) → AreFirstSlices choice wanted s planes count slices → IsPicture s slices
   is_picture planes slices first = grind (arith, common_steps, length-map, how_many, count_is)
 
-  each_picture : (pictures : List Planes) (coded : List (List EncodedSlice)) → AreEncoded choice wanted s pictures coded → All (IsPicture s) coded
+  each_picture : (pictures : List Planes) (coded : List (List IndexedSlice)) → AreEncoded choice wanted s pictures coded → All (IsPicture s) coded
   each_picture [] [] are = All-nil (IsPicture s)
   each_picture [] (slices ∷ coded) are = absurd are
   each_picture (planes ∷ pictures) [] are = absurd are
@@ -217,10 +217,10 @@ module _ (choice : Chooses) (wanted : Bool) (s : Sending) where
 -- ---- encoded frames
 
 module _ (choice : Chooses) (wanted : Bool) (s : Sending) (frame : Planes) (is : IsFrame s frame) (sound : first_sample_fault s frame ≡ None) (p : Parameters) (own : p ≡ sent_parameters s) where
-  abbrev Encoded : Planes → List EncodedSlice → Type 0
+  abbrev Encoded : Planes → List IndexedSlice → Type 0
   Encoded planes slices = AreFirstSlices choice wanted s planes (slice_count p) slices
 
-  of_settings : (planes : Planes) (slices : List EncodedSlice) → Encoded planes slices → AreFirstSlices choice wanted s planes (slice_count (sent_parameters s)) slices
+  of_settings : (planes : Planes) (slices : List IndexedSlice) → Encoded planes slices → AreFirstSlices choice wanted s planes (slice_count (sent_parameters s)) slices
   of_settings planes slices are = subst (λ (q : Parameters). AreFirstSlices choice wanted s planes (slice_count q) slices) own are
 
   by_plan : (planes : Planes) → CanBeTransformed (sent_parameters s) planes → CanBeTransformed p planes
@@ -238,7 +238,7 @@ module _ (choice : Chooses) (wanted : Bool) (s : Sending) (frame : Planes) (is :
     pub whole_refused : (e : SliceRefusal) → IsRefusedPicture choice wanted s frame e → OneIsTooLarge choice wanted s (pictures_of s frame) e
     whole_refused e refused = subst (λ (l : List Planes). OneIsTooLarge choice wanted s l e) (sym (one_picture s frame is sound single)) (first_refused choice wanted s frame [] e refused)
 
-    pub whole_encoded : (slices : List EncodedSlice) → Encoded frame slices → AreEncoded choice wanted s (pictures_of s frame) (slices ∷ [])
+    pub whole_encoded : (slices : List IndexedSlice) → Encoded frame slices → AreEncoded choice wanted s (pictures_of s frame) (slices ∷ [])
     whole_encoded slices are = subst (λ (l : List Planes). AreEncoded choice wanted s l (slices ∷ [])) (sym (one_picture s frame is sound single)) (of_settings frame slices are, tt)
 
   -- ---- a frame of two fields
@@ -256,11 +256,11 @@ module _ (choice : Chooses) (wanted : Bool) (s : Sending) (frame : Planes) (is :
     pub first_field_refused : (e : SliceRefusal) → IsRefusedPicture choice wanted s earlier e → OneIsTooLarge choice wanted s (pictures_of s frame) e
     first_field_refused e refused = subst (λ (l : List Planes). OneIsTooLarge choice wanted s l e) (sym pictures) (first_refused choice wanted s earlier (later ∷ []) e refused)
 
-    pub second_field_refused : (first : List EncodedSlice) (e : SliceRefusal) → Encoded earlier first → IsRefusedPicture choice wanted s later e → OneIsTooLarge choice wanted s (pictures_of s frame) e
+    pub second_field_refused : (first : List IndexedSlice) (e : SliceRefusal) → Encoded earlier first → IsRefusedPicture choice wanted s later e → OneIsTooLarge choice wanted s (pictures_of s frame) e
     second_field_refused first e encoded refused =
         subst (λ (l : List Planes). OneIsTooLarge choice wanted s l e) (sym pictures)
         (later_refused choice wanted s earlier first (later ∷ []) e (of_settings earlier first encoded) (first_refused choice wanted s later [] e refused))
 
-    pub fields_encoded : (first second : List EncodedSlice) → Encoded earlier first → Encoded later second → AreEncoded choice wanted s (pictures_of s frame) (first ∷ second ∷ [])
+    pub fields_encoded : (first second : List IndexedSlice) → Encoded earlier first → Encoded later second → AreEncoded choice wanted s (pictures_of s frame) (first ∷ second ∷ [])
     fields_encoded first second one two =
         subst (λ (l : List Planes). AreEncoded choice wanted s l (first ∷ second ∷ [])) (sym pictures) (of_settings earlier first one, (of_settings later second two, tt))

@@ -3,7 +3,8 @@ mod SampleFaults
 pub mod Numbered
 pub mod Frames
 mod FramePictures
-pub mod PutPictures
+pub mod PackedRuns
+mod PutPictures
 pub mod PayloadLengths
 pub mod Cutting
 mod Putting

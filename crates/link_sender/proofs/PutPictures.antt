@@ -1,7 +1,7 @@
 -- The datagrams of a picture and of a frame, put one behind another.
-use Rattle.std.proofs.Common.{◌≡◌, ℕ, zero, suc, ◌+◌, ◌^◌, ◌<◌, ◌≤◌, List, [], ◌∷◌, ◌++◌, length, map, refl, sym, ap, subst, ◌∙◌, arith, append_assoc, ◌-◌, ◌*◌, ◌%◌, true, take, get_or, Option, Some, None, All, mul-pos, take-suc}
+use Rattle.std.proofs.Common.{◌≡◌, ℕ, zero, suc, ◌+◌, ◌^◌, ◌<◌, ◌≤◌, List, [], ◌∷◌, ◌++◌, length, map, refl, sym, ap, subst, ◌∙◌, arith, append_assoc, ◌-◌, ◌*◌, ◌%◌, true, Option, Some, None, All, mul-pos}
 use Rattle.std.proofs.lemmas.Bool.Decides.{nat_tests}
-use Rattle.std.proofs.lemmas.List.{append-nil, length-append, map-append, get_or-map, length-map}
+use Rattle.std.proofs.lemmas.List.{append-nil, length-append, map-append, length-map}
 use Rattle.std.proofs.lemmas.Grind.{common_steps}
 use Rattle.link_model.specs.Kept.{SliceRun}
 use Rattle.link_model.specs.Sending.{DatagramContent, SlicesContent, run_end, run_of_one, run_with, runs_from, runs_of_slices, Outgoing, pictures_per_frame, timestamp_of}
@@ -22,7 +22,7 @@ use Rattle.link_sender.specs.Packing.{Appends, packing_of}
 use Rattle.link_sender.specs.Sent.{IsPicture, coded_frame_outgoing, coded_outgoing, coded_pictures_outgoing, slices_by_picture, second_pictures}
 use Rattle.link_sender.proofs.Numbered.{appends_more}
 use Rattle.link_sender.proofs.SentBytes.{datagrams_count}
-use Rattle.picture_encode.specs.declared.slices.EncodedSlice.{EncodedSlice}
+use Rattle.picture_encode.specs.IndexedSlices.{IndexedSlice}
 use Rattle.picture_encode.specs.Encoded.{IsSized, bytes_of_slices}
 use Rattle.vc_types.specs.Bits.{digit_of}
 use Rattle.vc_types.specs.Limits.{slices_fit}
@@ -139,20 +139,6 @@ whole_packed p (slice ∷ behind) first x y run some fits packed puts = all_pack
 pub some_slices : (across down : ℕ) → slices_fit across down ≡ true → 1 ≤ across * down
 some_slices across down fits = grind (arith, common_steps, nat_tests, mul-pos)
 
-abbrev bytes_of : EncodedSlice → List ℕ
-bytes_of e = e.bytes.items
-
-pub own_bytes : (slices : List EncodedSlice) (i : ℕ) (item : EncodedSlice) → i < length slices → item ≡ get_or slices i item → get_or (bytes_of_slices slices) i (item.bytes.items) ≡ item.bytes.items
-own_bytes slices i item inside is = get_or-map bytes_of slices i item item.bytes.items inside ∙ ap bytes_of (sym is)
-
-pub next_slice : (slices : List EncodedSlice) (i : ℕ) (item : EncodedSlice) → i < length slices → item ≡ get_or slices i item → take (i + 1) (bytes_of_slices slices) ≡ take i (bytes_of_slices slices) ++ item.bytes.items ∷ []
-next_slice slices i item inside is =
-    let long = length-map slices bytes_of in
-    let next : i + 1 ≡ suc i = omega arith in
-    ap (λ k. take k (bytes_of_slices slices)) next
-    ∙ take-suc (bytes_of_slices slices) i item.bytes.items (omega (arith, inside, long))
-    ∙ ap (λ b. take i (bytes_of_slices slices) ++ b ∷ []) (own_bytes slices i item inside is)
-
 pub all_fit : (s : Sending) (p : Picture) (slices : List (List ℕ)) → packing_view p.settings ≡ packing_of s → All (IsSized s) slices → All (FitsRun (packing_view p.settings)) slices
 all_fit s p slices is sized =
     let size : p.settings.size ≡ s.size = ap (λ (t : Packing). t.size) is in
@@ -165,32 +151,46 @@ sent_slice_count s p is = ap slice_count (sym is)
 -- ---- pictures
 
 module _ (s : Sending) (coded : FrameSlices) where
-  pub first_is : (slices : List EncodedSlice) → slices ≡ coded.first.items → All (IsPicture s) (slices_by_picture coded) → IsPicture s slices
-  first_is slices is each = subst (λ (l : List EncodedSlice). IsPicture s l) (sym is) (All-head (IsPicture s) coded.first.items (second_pictures coded.second) each)
+  pub first_is : (runs : List (List IndexedSlice)) → runs ≡ coded.first.items → All (IsPicture s) (slices_by_picture coded) → IsPicture s (joined runs)
+  first_is runs is each = subst (λ (l : List (List IndexedSlice)). IsPicture s (joined l)) (sym is) (All-head (IsPicture s) (joined coded.first.items) (second_pictures coded.second) each)
 
-  pub second_is : (second : Vec EncodedSlice) (slices : List EncodedSlice) → coded.second ≡ Some second → slices ≡ second.items → All (IsPicture s) (slices_by_picture coded) → IsPicture s slices
-  second_is second slices some is each =
-      let rest = All-tail (IsPicture s) coded.first.items (second_pictures coded.second) each in
-      let own : All (IsPicture s) (second.items ∷ []) = subst (λ (o : Option (Vec EncodedSlice)). All (IsPicture s) (second_pictures o)) some rest in
-      subst (λ (l : List EncodedSlice). IsPicture s l) (sym is) (All-head (IsPicture s) second.items [] own)
+  pub second_is : (second : Vec (List IndexedSlice)) (runs : List (List IndexedSlice)) → coded.second ≡ Some second → runs ≡ second.items → All (IsPicture s) (slices_by_picture coded) → IsPicture s (joined runs)
+  second_is second runs some is each =
+      let rest = All-tail (IsPicture s) (joined coded.first.items) (second_pictures coded.second) each in
+      let own : All (IsPicture s) (joined second.items ∷ []) = subst (λ (o : Option (Vec (List IndexedSlice))). All (IsPicture s) (second_pictures o)) some rest in
+      subst (λ (l : List (List IndexedSlice)). IsPicture s (joined l)) (sym is) (All-head (IsPicture s) (joined second.items) [] own)
 
   abbrev at : ℕ → ℕ
   at f = f * pictures_per_frame s
 
-  pub one_sent : (f : ℕ) (slices : List EncodedSlice) (x y : Outbox) → slices ≡ coded.first.items → coded.second ≡ None
-      → Appends s (coded_outgoing s (at f + 0) (bytes_of_slices slices)) x y → Appends s (coded_frame_outgoing s f coded) x y
-  one_sent f slices x y is none appends = grind (arith, common_steps, append-nil)
+  -- what is sent of the first picture's slices
+  abbrev first_outgoing : ℕ → List Outgoing
+  first_outgoing f = coded_outgoing s (at f) (bytes_of_slices (joined coded.first.items))
 
-  pub two_sent : (f : ℕ) (slices others : List EncodedSlice) (second : Vec EncodedSlice) (x y z : Outbox) → slices ≡ coded.first.items → coded.second ≡ Some second → others ≡ second.items
-      → Appends s (coded_outgoing s (at f + 0) (bytes_of_slices slices)) x y → Appends s (coded_outgoing s (at f + 1) (bytes_of_slices others)) y z → Appends s (coded_frame_outgoing s f coded) x z
-  two_sent f slices others second x y z is some are one two =
+  second_outgoing : (f : ℕ) (second : Option (Vec (List IndexedSlice))) → coded.second ≡ second
+      → first_outgoing f ++ coded_pictures_outgoing s (at f + 1) (second_pictures second) ≡ coded_frame_outgoing s f coded
+  second_outgoing f second is = ap (λ (o : Option (Vec (List IndexedSlice))). first_outgoing f ++ coded_pictures_outgoing s (at f + 1) (second_pictures o)) (sym is)
+
+  pub one_sent : (f : ℕ) (runs : List (List IndexedSlice)) (x y : Outbox) → runs ≡ coded.first.items → coded.second ≡ None
+      → Appends s (coded_outgoing s (at f + 0) (bytes_of_slices (joined runs))) x y → Appends s (coded_frame_outgoing s f coded) x y
+  one_sent f runs x y is none appends =
       let here : at f + 0 ≡ at f = omega arith in
-      let a = coded_outgoing s (at f + 0) (bytes_of_slices slices) in
-      let b = coded_outgoing s (at f + 1) (bytes_of_slices others) in
+      let outgoing : coded_outgoing s (at f + 0) (bytes_of_slices (joined runs)) ≡ coded_frame_outgoing s f coded =
+      (λ i. coded_outgoing s (here i) (bytes_of_slices (joined (is i))))
+      ∙ sym (append-nil (first_outgoing f))
+      ∙ second_outgoing f None none in
+      subst (λ (l : List Outgoing). Appends s l x y) outgoing appends
+
+  pub two_sent : (f : ℕ) (runs others : List (List IndexedSlice)) (second : Vec (List IndexedSlice)) (x y z : Outbox) → runs ≡ coded.first.items → coded.second ≡ Some second → others ≡ second.items
+      → Appends s (coded_outgoing s (at f + 0) (bytes_of_slices (joined runs))) x y → Appends s (coded_outgoing s (at f + 1) (bytes_of_slices (joined others))) y z → Appends s (coded_frame_outgoing s f coded) x z
+  two_sent f runs others second x y z is some are one two =
+      let here : at f + 0 ≡ at f = omega arith in
+      let a = coded_outgoing s (at f + 0) (bytes_of_slices (joined runs)) in
+      let b = coded_outgoing s (at f + 1) (bytes_of_slices (joined others)) in
       let outgoing : a ++ b ≡ coded_frame_outgoing s f coded =
-      (λ i. coded_outgoing s (here i) (bytes_of_slices (is i)) ++ coded_outgoing s (at f + 1) (bytes_of_slices (are i)))
-      ∙ ap (λ l. coded_outgoing s (at f) (bytes_of_slices coded.first.items) ++ l) (sym (append-nil (coded_outgoing s (at f + 1) (bytes_of_slices second.items))))
-      ∙ ap (λ (o : Option (Vec EncodedSlice)). coded_outgoing s (at f) (bytes_of_slices coded.first.items) ++ coded_pictures_outgoing s (at f + 1) (second_pictures o)) (sym some) in
+      (λ i. coded_outgoing s (here i) (bytes_of_slices (joined (is i))) ++ coded_outgoing s (at f + 1) (bytes_of_slices (joined (are i))))
+      ∙ ap (λ l. first_outgoing f ++ l) (sym (append-nil (coded_outgoing s (at f + 1) (bytes_of_slices (joined second.items)))))
+      ∙ second_outgoing f (Some second) some in
       subst (λ (l : List Outgoing). Appends s l x z) outgoing (appends_more s a b x y z one two)
 
 -- ---- the numbers behind a frame

@@ -13,10 +13,11 @@ use Rattle.link_sender.specs.declared.encoding.FrameSlices.{FrameSlices}
 use Rattle.link_sender.specs.declared.refusal.SendRefusal.{SendRefusal}
 use Rattle.link_sender.specs.Packing.{bytes_of_all}
 use Rattle.link_sender.specs.Refusals.{SaysFault}
+use Rattle.picture_encode.specs.IndexedSlices.{IndexedSlice}
 use Rattle.picture_encode.specs.declared.refusal.SliceRefusal.{SliceRefusal}
-use Rattle.picture_encode.specs.declared.slices.EncodedSlice.{EncodedSlice}
 use Rattle.picture_encode.specs.Encoded.{Chooses, AreFirstSlices, IsSized, bytes_of_slices}
 use Rattle.picture_encode.specs.Refusals.{Tells}
+use Rattle.vc_types.specs.Fields.{joined}
 use Rattle.vc_types.specs.Planes.{Planes}
 use Rattle.vc_types.specs.SenderSettings.{Sending}
 use Rattle.vc_types.specs.Subbands.{slice_count}
@@ -24,15 +25,15 @@ use Rattle.vc_types.specs.Subbands.{slice_count}
 -- ---- the encoded slices of a frame's pictures
 
 -- those of the second picture, if there is one
-abbrev pub second_pictures : Option (Vec EncodedSlice) → List (List EncodedSlice)
+abbrev pub second_pictures : Option (Vec (List IndexedSlice)) → List (List IndexedSlice)
 second_pictures None = []
-second_pictures (Some slices) = slices.items ∷ []
+second_pictures (Some runs) = joined runs.items ∷ []
 
-abbrev pub slices_by_picture : FrameSlices → List (List EncodedSlice)
-slices_by_picture e = e.first.items ∷ second_pictures e.second
+abbrev pub slices_by_picture : FrameSlices → List (List IndexedSlice)
+slices_by_picture e = joined e.first.items ∷ second_pictures e.second
 
 -- pictures were encoded, each at answers on the needs of all its slices
-abbrev pub AreEncoded : Chooses → Bool → Sending → List Planes → List (List EncodedSlice) → Type 0
+abbrev pub AreEncoded : Chooses → Bool → Sending → List Planes → List (List IndexedSlice) → Type 0
 AreEncoded choice wanted s pictures coded = AllZip
     (λ planes slices.
     AreFirstSlices choice wanted s planes (slice_count (sent_parameters s)) slices)
@@ -59,7 +60,7 @@ EncodesFrame choice wanted s frame (Err e) =
 -- ---- their datagrams
 
 -- encoded slices are a picture's, and each fits a datagram
-pub record IsPicture (s : Sending) (slices : List EncodedSlice) : Type 0 where
+pub record IsPicture (s : Sending) (slices : List IndexedSlice) : Type 0 where
   pub count : length slices ≡ s.across * s.down
   pub sized : All (IsSized s) (bytes_of_slices slices)
 
@@ -74,7 +75,7 @@ coded_outgoing s picture slices = map (outgoing picture)
     ∷ map SlicesContent (runs_of_slices (slice_room s) slices))
 
 -- of pictures one after another, from one on
-abbrev pub coded_pictures_outgoing : Sending → ℕ → List (List EncodedSlice) → List Outgoing
+abbrev pub coded_pictures_outgoing : Sending → ℕ → List (List IndexedSlice) → List Outgoing
 coded_pictures_outgoing s picture [] = []
 coded_pictures_outgoing s picture (slices ∷ pictures) =
     coded_outgoing s picture (bytes_of_slices slices)

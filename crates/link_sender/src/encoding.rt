@@ -10,18 +10,18 @@ ghost use Rattle.vc_types.specs.TransformParameters.{parameters_of};
 
 use field_pairs::split;
 use picture_encode::{
-    Chooser, EncodedSlice, PictureGrids, SliceRefusal, encode_picture, encode_picture_joined,
+    Chooser, EncodedRun, PictureGrids, SliceRefusal, encode_picture, encode_picture_joined,
 };
 use std::alloc::Global;
 use std::thread::Threads;
 use vc_types::{Plan, Plane, SendSettings, SliceNeed};
 
-/// The encoded slices of a frame's pictures: of the frame itself, or of its earlier and of its
+/// The encoded slices of a frame's pictures, in runs: of the frame itself, or of its earlier and of its
 /// later field.
 #[derive(Drop)]
 pub(crate) struct FrameSlices {
-    pub(crate) first: Vec<EncodedSlice>,
-    pub(crate) second: Option<Vec<EncodedSlice>>,
+    pub(crate) first: Vec<EncodedRun>,
+    pub(crate) second: Option<Vec<EncodedRun>>,
 }
 
 /// Encodes the pictures of a frame, whose samples are in range. The plan is the one that the

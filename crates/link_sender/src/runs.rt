@@ -6,6 +6,7 @@ ghost use Rattle.link_sender.specs.declared.outbox.Outbox.{Outbox};
 ghost use Rattle.link_sender.specs.Puts.{PutsDatagrams};
 ghost use Rattle.link_sender.specs.Runs.{EndsRun, FitsRun, HoldsSlices, PacksSlices, run_with_slices};
 ghost use Rattle.picture_encode.specs.Encoded.{bytes_of_slices};
+ghost use Rattle.vc_types.specs.Fields.{joined};
 ghost use Rattle.vc_types.specs.SenderSettings.{packing_view};
 ghost use Rattle.vc_types.specs.Subbands.{slice_count};
 ghost use Rattle.vc_types.specs.TransformParameters.{parameters_of};
@@ -13,7 +14,7 @@ ghost use Rattle.vc_types.specs.TransformParameters.{parameters_of};
 use crate::outbox::Outbox;
 use crate::parts::{SLICES_HEADS, next_slice};
 use crate::picture::Picture;
-use picture_encode::EncodedSlice;
+use picture_encode::EncodedRun;
 use std::alloc::Global;
 use vc_types::NoMemory;
 use vc2_payload::Payload;
@@ -62,24 +63,49 @@ impl Outbox {
         self.put_run(p, &run)
     }
 
-    /// The same of slices that were encoded.
+    /// The same of slices that were encoded, in runs.
     pub(crate) fn put_encoded(
         &mut self,
         p: &Picture<'_>,
-        slices: &[EncodedSlice],
+        runs: &[EncodedRun],
     ) -> Result<(), NoMemory>
-        requires count { length slices.now ≡ slice_count (parameters_of p.now.plan.now) }
-        requires fit { All (FitsRun (packing_view p.now.settings)) (bytes_of_slices slices.now) }
+        requires count { length (joined runs.now) ≡ slice_count (parameters_of p.now.plan.now) }
+        requires fit { All (FitsRun (packing_view p.now.settings))
+            (bytes_of_slices (joined runs.now)) }
         ensures { OnOk result (PutsDatagrams p.now
             (map SlicesContent (runs_of_slices (slices_room (packing_view p.now.settings))
-            (bytes_of_slices slices.now)))
+            (bytes_of_slices (joined runs.now))))
             self.old self.new) }
     {
-        let mut run = OpenRun::new(self.alloc);
-        for slice in slices {
-            self.pack(p, &mut run, &slice.bytes)?;
+        let mut open = OpenRun::new(self.alloc);
+        for run in runs {
+            self.pack_all(p, &mut open, run)?;
         }
-        self.put_run(p, &run)
+        self.put_run(p, &open)
+    }
+
+    // Adds encoded slices to the open run, one after another.
+    fn pack_all(
+        &mut self,
+        p: &Picture<'_>,
+        run: &mut OpenRun,
+        slices: &EncodedRun,
+    ) -> Result<(), NoMemory>
+        requires run { EndsRun (packing_view p.now.settings) (run.old.first + run.old.count)
+            run.old }
+        requires behind { run.old.first + run.old.count + length slices.now
+            ≤ slice_count (parameters_of p.now.plan.now) }
+        requires fit { All (FitsRun (packing_view p.now.settings)) (bytes_of_slices slices.now) }
+        ensures run { OnOk result (EndsRun (packing_view p.now.settings)
+            (run.old.first + run.old.count + length slices.now) run.new) }
+        ensures packed { OnOk result ((before : List (List ℕ)) (first : Outbox)
+            → PacksSlices p.now before first self.old run.old
+            → PacksSlices p.now (before ++ bytes_of_slices slices.now) first self.new run.new) }
+    {
+        for number in 0..slices.count() {
+            self.pack(p, run, slices.slice(number))?;
+        }
+        Ok(())
     }
 
     // Adds a slice to the open run. If there is no room for it, the run is put, and the slice

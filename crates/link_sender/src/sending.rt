@@ -10,6 +10,7 @@ ghost use Rattle.picture_encode.specs.Answering.{Answers};
 ghost use Rattle.picture_encode.specs.Choosing.{AnswersAtMost127};
 ghost use Rattle.picture_encode.specs.Encoded.{bytes_of_slices};
 ghost use Rattle.vc_types.specs.Bits.{bits_of};
+ghost use Rattle.vc_types.specs.Fields.{joined};
 ghost use Rattle.vc_types.specs.Planes.{planes_in};
 ghost use Rattle.vc_types.specs.SenderSettings.{packing_view, sending_view};
 
@@ -22,7 +23,7 @@ use crate::refusal::SendRefusal;
 use crate::samples::check_samples;
 use crate::sender::Sender;
 use crate::writing::write_end;
-use picture_encode::{Chooser, EncodedSlice, PictureGrids, header_of, plan_of};
+use picture_encode::{Chooser, EncodedRun, PictureGrids, header_of, plan_of};
 use std::alloc::Global;
 use std::thread::Threads;
 use vc_params::write_params;
@@ -163,14 +164,14 @@ impl<F: Fn(&SliceNeed) -> u8> Sender<F> {
         &self,
         outbox: &mut Outbox,
         place: &PicturePlace,
-        slices: &[EncodedSlice],
+        slices: &[EncodedRun],
     ) -> Result<(), NoMemory>
         requires place { IsPlace (sending_view self.now.settings) place.now }
-        requires whole { IsPicture (sending_view self.now.settings) slices.now }
+        requires whole { IsPicture (sending_view self.now.settings) (joined slices.now) }
         ensures { OnOk result (Appends (sending_view self.now.settings)
             (coded_outgoing (sending_view self.now.settings)
-            (picture_at (sending_view self.now.settings) place.now) (bytes_of_slices slices.now))
-            outbox.old outbox.new) }
+            (picture_at (sending_view self.now.settings) place.now)
+            (bytes_of_slices (joined slices.now))) outbox.old outbox.new) }
     {
         let header = write_header(self.alloc, &self.header)?;
         let params = write_params(self.alloc, 3, &self.plan)?;

@@ -44,7 +44,8 @@ pub(crate) fn write_datagram(
     };
     let mut head = [0; 12];
     write_rtp(&view, &mut head);
-    let mut bytes = Vec::from_slice(alloc, &head)?;
+    let mut bytes = Vec::with_capacity(alloc, s.size as usize)?;
+    bytes.extend_from_slice(&head)?;
     write_payload(&mut bytes, payload)?;
     Ok(Datagram { bytes })
 }

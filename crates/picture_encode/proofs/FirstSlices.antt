@@ -8,10 +8,11 @@ use Rattle.std.proofs.lemmas.List.FromFn.{map-range_with_len_more, length-map-ra
 use Rattle.link_model.specs.SendingFaults as faults
 use Rattle.link_model.specs.SendingFaults.{SendFault, first_of_slices, is_too_large, slice_fault}
 use Rattle.link_model.specs.SendingPictures.{Need, need_of, sent_parameters, sent_slice}
-use Rattle.picture_encode.specs.Encoded.{Chooses, IsSized, IsEncoded, IsRefusedSlice, AreSlices, RefusesSlices, EncodesSlices, AreFirstAnswers, AreFirstSlices, IsRefusedPicture, indices_of, bytes_of_slices}
+use Rattle.picture_encode.specs.IndexedSlices.{IndexedSlice}
+use Rattle.picture_encode.specs.Encoded.{Chooses, IsSized, IsEncoded, IsRefusedSlice, AreSlices, RefusesSlices, EncodesRuns, AreFirstAnswers, AreFirstSlices, IsRefusedPicture, indices_of, bytes_of_slices}
 use Rattle.picture_encode.specs.declared.refusal.SliceRefusal.{SliceRefusal}
 use Rattle.picture_encode.specs.declared.refusal.SliceRefusal.TheVariants.{SliceTooLarge, NoMemory}
-use Rattle.picture_encode.specs.declared.slices.EncodedSlice.{EncodedSlice}
+use Rattle.vc_types.specs.Fields.{joined}
 use Rattle.vc_types.specs.Planes.{Planes}
 use Rattle.vc_types.specs.SenderSettings.{Sending}
 use Rattle.vc_types.specs.Subbands.{slice_count}
@@ -70,31 +71,31 @@ module _ (choice : Chooses) (wanted : Bool) (s : Sending) (planes : Planes) wher
 
   -- ---- slices by their numbers
 
-  abbrev Encoded : ℕ → EncodedSlice → Type 0
+  abbrev Encoded : ℕ → IndexedSlice → Type 0
   Encoded = IsEncoded choice wanted s planes
 
   abbrev piece : ℕ × ℕ → List ℕ
   piece z = sent_slice (sent_parameters s) planes z.0 z.1
 
-  answers_of : (numbers : List ℕ) (slices : List EncodedSlice) → AllZip Encoded numbers slices → AllZip choice (map (need_of s wanted planes) numbers) (indices_of slices)
+  answers_of : (numbers : List ℕ) (slices : List IndexedSlice) → AllZip Encoded numbers slices → AllZip choice (map (need_of s wanted planes) numbers) (indices_of slices)
   answers_of [] [] h = tt
   answers_of [] (e ∷ slices) h = absurd h
   answers_of (n ∷ numbers) [] h = absurd h
   answers_of (n ∷ numbers) (e ∷ slices) h = (h.0.answer, answers_of numbers slices h.1)
 
-  sized_of : (numbers : List ℕ) (slices : List EncodedSlice) → AllZip Encoded numbers slices → All (IsSized s) (bytes_of_slices slices)
+  sized_of : (numbers : List ℕ) (slices : List IndexedSlice) → AllZip Encoded numbers slices → All (IsSized s) (bytes_of_slices slices)
   sized_of [] [] h = All-nil (IsSized s)
   sized_of [] (e ∷ slices) h = absurd h
   sized_of (n ∷ numbers) [] h = absurd h
-  sized_of (n ∷ numbers) (e ∷ slices) h = All-cons (IsSized s) e.bytes.items (bytes_of_slices slices) h.0.encoded.sized (sized_of numbers slices h.1)
+  sized_of (n ∷ numbers) (e ∷ slices) h = All-cons (IsSized s) e.bytes (bytes_of_slices slices) h.0.encoded.sized (sized_of numbers slices h.1)
 
-  fit_of : (a n : ℕ) (slices : List EncodedSlice) → AllZip Encoded (range_with_len a n) slices → first_of_slices s planes (enumerate_from a (indices_of slices)) ≡ None
+  fit_of : (a n : ℕ) (slices : List IndexedSlice) → AllZip Encoded (range_with_len a n) slices → first_of_slices s planes (enumerate_from a (indices_of slices)) ≡ None
   fit_of a zero [] h = none_left s planes
   fit_of a zero (e ∷ slices) h = absurd h
   fit_of a (suc n) [] h = absurd h
   fit_of a (suc n) (e ∷ slices) h = one_fits s planes (a, e.index) (enumerate_from (a + 1) (indices_of slices)) h.0.encoded.fits ∙ fit_of (a + 1) n slices h.1
 
-  bytes_of : (a n : ℕ) (slices : List EncodedSlice) → AllZip Encoded (range_with_len a n) slices → bytes_of_slices slices ≡ map piece (enumerate_from a (indices_of slices))
+  bytes_of : (a n : ℕ) (slices : List IndexedSlice) → AllZip Encoded (range_with_len a n) slices → bytes_of_slices slices ≡ map piece (enumerate_from a (indices_of slices))
   bytes_of a zero [] h = refl
   bytes_of a zero (e ∷ slices) h = absurd h
   bytes_of a (suc n) [] h = absurd h
@@ -102,7 +103,7 @@ module _ (choice : Chooses) (wanted : Bool) (s : Sending) (planes : Planes) wher
       let rest = bytes_of (a + 1) n slices h.1 in
       λ i. h.0.encoded.bytes_are i ∷ rest i
 
-  first_slices : (n : ℕ) (slices : List EncodedSlice) → AreSlices choice wanted s planes 0 n slices → AreFirstSlices choice wanted s planes n slices
+  first_slices : (n : ℕ) (slices : List IndexedSlice) → AreSlices choice wanted s planes 0 n slices → AreFirstSlices choice wanted s planes n slices
   first_slices n slices h =
       let same : n - 0 ≡ n = omega arith in
       let all : AllZip Encoded (range_with_len 0 n) slices = subst (λ (m : ℕ). AllZip Encoded (range_with_len 0 m) slices) same h in
@@ -115,7 +116,7 @@ module _ (choice : Chooses) (wanted : Bool) (s : Sending) (planes : Planes) wher
 
   -- ---- slices up to one that is refused
 
-  module _ (n : ℕ) (slices : List EncodedSlice) (first : AreFirstSlices choice wanted s planes n slices) where
+  module _ (n : ℕ) (slices : List IndexedSlice) (first : AreFirstSlices choice wanted s planes n slices) where
     abbrev needs : ℕ → List Need
     needs k = map (need_of s wanted planes) (range_with_len 0 k)
 
@@ -154,10 +155,10 @@ module _ (choice : Chooses) (wanted : Bool) (s : Sending) (planes : Planes) wher
 
   -- ---- a picture
 
-  pub picture_encoded : (n : ℕ) (r : Result (Vec EncodedSlice) SliceRefusal) → EncodesSlices choice wanted s planes 0 n r → IfOk r (λ slices. AreFirstSlices choice wanted s planes n slices.items)
-  picture_encoded n (Ok slices) is = first_slices n slices.items is
+  pub picture_encoded : (n : ℕ) (r : Result (Vec (List IndexedSlice)) SliceRefusal) → EncodesRuns choice wanted s planes 0 n r → IfOk r (λ runs. AreFirstSlices choice wanted s planes n (joined runs.items))
+  picture_encoded n (Ok runs) is = first_slices n (joined runs.items) is
   picture_encoded n (Err e) is = tt
 
-  pub picture_not_encoded : (n : ℕ) (r : Result (Vec EncodedSlice) SliceRefusal) → n ≡ slice_count (sent_parameters s) → EncodesSlices choice wanted s planes 0 n r → IfErr r (λ e. IsRefusedPicture choice wanted s planes e)
-  picture_not_encoded n (Ok slices) all is = tt
+  pub picture_not_encoded : (n : ℕ) (r : Result (Vec (List IndexedSlice)) SliceRefusal) → n ≡ slice_count (sent_parameters s) → EncodesRuns choice wanted s planes 0 n r → IfErr r (λ e. IsRefusedPicture choice wanted s planes e)
+  picture_not_encoded n (Ok runs) all is = tt
   picture_not_encoded n (Err e) all is = picture_refused n e all is

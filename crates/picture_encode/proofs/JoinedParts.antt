@@ -1,11 +1,10 @@
 -- The parts of a picture's slices, put together in their order.
 use Rattle.std.proofs.Common.{◌≡◌, ℕ, ◌+◌, ◌*◌, ◌/◌, ◌<◌, ◌≤◌, Bool, List, [], ◌∷◌, ◌++◌, length, get_or, Result, Ok, Err, sym, ap, subst, ◌∙◌, arith, mul-add, div-mul-le_self, le-div_iff_mul-le, div-lt_iff_lt-mul, mul-div_cancel}
-use Rattle.std.specs.Global.{Vec}
 use Rattle.std.proofs.lemmas.List.{length_push}
+use Rattle.picture_encode.specs.IndexedSlices.{IndexedSlice}
 use Rattle.picture_encode.specs.Encoded.{Chooses, AreSlices, RefusesSlices, EncodesSlices}
 use Rattle.picture_encode.specs.declared.refusal.SliceRefusal.{SliceRefusal}
 use Rattle.picture_encode.specs.declared.refusal.SliceRefusal.TheVariants.{SliceTooLarge, NoMemory}
-use Rattle.picture_encode.specs.declared.slices.EncodedSlice.{EncodedSlice}
 use Rattle.picture_encode.proofs.SlicesInTurn.{slices_joined}
 use Rattle.vc_types.specs.Planes.{Planes}
 use Rattle.vc_types.specs.SenderSettings.{Sending}
@@ -31,10 +30,10 @@ shares_rise n parts k some =
 -- ---- their answers
 
 abbrev Answer : Type 0
-Answer = Result (Vec EncodedSlice) SliceRefusal
+Answer = Result (List IndexedSlice) SliceRefusal
 
 module _ (choice : Chooses) (wanted : Bool) (s : Sending) (planes : Planes) where
-  refused_behind : (mid to all : ℕ) (front : List EncodedSlice) (e : SliceRefusal) → to ≤ all → AreSlices choice wanted s planes 0 mid front → RefusesSlices choice wanted s planes mid to e → RefusesSlices choice wanted s planes 0 all e
+  refused_behind : (mid to all : ℕ) (front : List IndexedSlice) (e : SliceRefusal) → to ≤ all → AreSlices choice wanted s planes 0 mid front → RefusesSlices choice wanted s planes mid to e → RefusesSlices choice wanted s planes 0 all e
   refused_behind mid to all front (SliceTooLarge n bytes) upto before is = record {
     slice = is.slice;
     within = (omega arith, omega (arith, is.within.1, upto));
@@ -44,7 +43,7 @@ module _ (choice : Chooses) (wanted : Bool) (s : Sending) (planes : Planes) wher
   }
   refused_behind mid to all front NoMemory upto before is = tt
 
-  module _ (n parts : ℕ) (answers yielded : List Answer) (answer : Answer) (front : List EncodedSlice) (some : 0 < parts) (long : length answers ≡ parts)
+  module _ (n parts : ℕ) (answers yielded : List Answer) (answer : Answer) (front : List IndexedSlice) (some : 0 < parts) (long : length answers ≡ parts)
       (each : (part : ℕ) (d : Answer) → part < parts → EncodesSlices choice wanted s planes (share_start n parts part) (share_start n parts (part + 1)) (get_or answers part d))
       (turn : (length yielded < length answers) × (answer ≡ get_or answers (length yielded) answer))
       (before : AreSlices choice wanted s planes 0 (share_start n parts (length yielded)) front) where
@@ -56,13 +55,13 @@ module _ (choice : Chooses) (wanted : Bool) (s : Sending) (planes : Planes) wher
         subst (λ (r : Answer). EncodesSlices choice wanted s planes (share_start n parts part) (share_start n parts (part + 1)) r) (sym turn.1)
         (each part answer (omega (arith, turn.0, long)))
 
-    pub part_joined : (more : Vec EncodedSlice) (all : List EncodedSlice) → answer ≡ Ok more → all ≡ front ++ more.items → AreSlices choice wanted s planes 0 (share_start n parts (length (yielded ++ answer ∷ []))) all
+    pub part_joined : (more all : List IndexedSlice) → answer ≡ Ok more → all ≡ front ++ more → AreSlices choice wanted s planes 0 (share_start n parts (length (yielded ++ answer ∷ []))) all
     part_joined more all is grown =
-        let here : AreSlices choice wanted s planes (share_start n parts part) (share_start n parts (part + 1)) more.items =
+        let here : AreSlices choice wanted s planes (share_start n parts part) (share_start n parts (part + 1)) more =
         subst (λ (r : Answer). EncodesSlices choice wanted s planes (share_start n parts part) (share_start n parts (part + 1)) r) is own in
-        let joined = slices_joined choice wanted s planes 0 (share_start n parts part) (share_start n parts (part + 1)) front more.items (omega arith) (shares_rise n parts part some) before here in
+        let joined = slices_joined choice wanted s planes 0 (share_start n parts part) (share_start n parts (part + 1)) front more (omega arith) (shares_rise n parts part some) before here in
         subst (λ (k : ℕ). AreSlices choice wanted s planes 0 (share_start n parts k) all) (sym (length_push yielded answer))
-        (subst (λ (l : List EncodedSlice). AreSlices choice wanted s planes 0 (share_start n parts (part + 1)) l) (sym grown) joined)
+        (subst (λ (l : List IndexedSlice). AreSlices choice wanted s planes 0 (share_start n parts (part + 1)) l) (sym grown) joined)
 
     pub part_refused : (e : SliceRefusal) → answer ≡ Err e → RefusesSlices choice wanted s planes 0 n e
     part_refused e is =
@@ -70,5 +69,5 @@ module _ (choice : Chooses) (wanted : Bool) (s : Sending) (planes : Planes) wher
         subst (λ (r : Answer). EncodesSlices choice wanted s planes (share_start n parts part) (share_start n parts (part + 1)) r) is own in
         refused_behind (share_start n parts part) (share_start n parts (part + 1)) n front e (share_upto n parts (part + 1) (omega (arith, turn.0, long))) before here
 
-  pub all_joined : (n parts k : ℕ) (all : List EncodedSlice) → 0 < parts → k ≡ parts → AreSlices choice wanted s planes 0 (share_start n parts k) all → AreSlices choice wanted s planes 0 n all
+  pub all_joined : (n parts k : ℕ) (all : List IndexedSlice) → 0 < parts → k ≡ parts → AreSlices choice wanted s planes 0 (share_start n parts k) all → AreSlices choice wanted s planes 0 n all
   all_joined n parts k all some last is = subst (λ (m : ℕ). AreSlices choice wanted s planes 0 m all) (ap (share_start n parts) last ∙ last_share n parts some) is

@@ -8,6 +8,7 @@ mod ThreeParts
 mod Judged
 mod SlicesInTurn
 mod JoinedParts
+pub mod CodedRuns
 mod FirstSlices
 mod PlanFacts
 mod BandParts

@@ -5,19 +5,20 @@ use Rattle.std.specs.Global.{Vec}
 use Rattle.std.specs.List.{AllZip, enumerate_from, range_with_len}
 use Rattle.link_model.specs.SendingFaults.{first_of_slices, is_too_large}
 use Rattle.link_model.specs.SendingPictures.{Need, need_of, sent_length, sent_parameters, sent_slice}
+use Rattle.picture_encode.specs.IndexedSlices.{IndexedSlice}
 use Rattle.picture_encode.specs.declared.refusal.SliceRefusal.{SliceRefusal}
 use Rattle.picture_encode.specs.declared.refusal.SliceRefusal.TheVariants.{SliceTooLarge, NoMemory}
-use Rattle.picture_encode.specs.declared.slices.EncodedSlice.{EncodedSlice}
 use Rattle.picture_encode.specs.Refusals.{Tells}
+use Rattle.vc_types.specs.Fields.{joined}
 use Rattle.vc_types.specs.Planes.{Planes}
 use Rattle.vc_types.specs.SenderSettings.{Sending}
 use Rattle.vc_types.specs.Subbands.{slice_count}
 
-abbrev pub indices_of : List EncodedSlice → List ℕ
+abbrev pub indices_of : List IndexedSlice → List ℕ
 indices_of slices = map (λ e. e.index) slices
 
-abbrev pub bytes_of_slices : List EncodedSlice → List (List ℕ)
-bytes_of_slices slices = map (λ e. e.bytes.items) slices
+abbrev pub bytes_of_slices : List IndexedSlice → List (List ℕ)
+bytes_of_slices slices = map (λ e. e.bytes) slices
 
 -- ---- one slice
 
@@ -50,9 +51,9 @@ Chooses = Need → ℕ → Type 0
 
 -- a slice was encoded at an answer on its need
 pub record IsEncoded (choice : Chooses) (wanted : Bool) (s : Sending) (planes : Planes) (slice : ℕ)
-    (e : EncodedSlice) : Type 0 where
+    (e : IndexedSlice) : Type 0 where
   pub answer : choice (need_of s wanted planes slice) e.index
-  pub encoded : IsEncodedAt s planes slice e.index e.bytes.items
+  pub encoded : IsEncodedAt s planes slice e.index e.bytes
 
 -- a slice was refused: where it is too large, at an answer on its need
 abbrev pub IsRefusedSlice : Chooses → Bool → Sending → Planes → ℕ → SliceRefusal → Type 0
@@ -64,7 +65,7 @@ IsRefusedSlice choice wanted s planes slice e =
 -- ---- slices one after another
 
 -- the slices from one up to another were encoded
-abbrev pub AreSlices : Chooses → Bool → Sending → Planes → (from to : ℕ) → List EncodedSlice
+abbrev pub AreSlices : Chooses → Bool → Sending → Planes → (from to : ℕ) → List IndexedSlice
     → Type 0
 AreSlices choice wanted s planes from to slices =
     AllZip (IsEncoded choice wanted s planes) (range_with_len from (to - from)) slices
@@ -74,7 +75,7 @@ pub record IsRefusedAmong (choice : Chooses) (wanted : Bool) (s : Sending) (plan
     (from to : ℕ) (e : SliceRefusal) : Type 0 where
   pub slice : ℕ
   pub within : (from ≤ slice) × (slice < to)
-  pub before : List EncodedSlice
+  pub before : List IndexedSlice
   pub encoded : AreSlices choice wanted s planes from slice before
   pub refused : IsRefusedSlice choice wanted s planes slice e
 
@@ -85,10 +86,18 @@ RefusesSlices choice wanted s planes from to NoMemory = ⊤
 RefusesSlices choice wanted s planes from to e = IsRefusedAmong choice wanted s planes from to e
 
 abbrev pub EncodesSlices : Chooses → Bool → Sending → Planes → (from to : ℕ)
-    → Result (Vec EncodedSlice) SliceRefusal → Type 0
+    → Result (List IndexedSlice) SliceRefusal → Type 0
 EncodesSlices choice wanted s planes from to (Ok slices) =
-    AreSlices choice wanted s planes from to slices.items
+    AreSlices choice wanted s planes from to slices
 EncodesSlices choice wanted s planes from to (Err e) =
+    RefusesSlices choice wanted s planes from to e
+
+-- the same of slices in runs one after another
+abbrev pub EncodesRuns : Chooses → Bool → Sending → Planes → (from to : ℕ)
+    → Result (Vec (List IndexedSlice)) SliceRefusal → Type 0
+EncodesRuns choice wanted s planes from to (Ok runs) =
+    AreSlices choice wanted s planes from to (joined runs.items)
+EncodesRuns choice wanted s planes from to (Err e) =
     RefusesSlices choice wanted s planes from to e
 
 -- ---- the first slices of a picture
@@ -100,7 +109,7 @@ AreFirstAnswers choice wanted s planes count indices =
 
 -- so many first slices were encoded
 pub record AreFirstSlices (choice : Chooses) (wanted : Bool) (s : Sending) (planes : Planes)
-    (count : ℕ) (slices : List EncodedSlice) : Type 0 where
+    (count : ℕ) (slices : List IndexedSlice) : Type 0 where
   pub answers : AreFirstAnswers choice wanted s planes count (indices_of slices)
   pub fit : first_of_slices s planes (enumerate_from 0 (indices_of slices)) ≡ None
   pub sized : All (IsSized s) (bytes_of_slices slices)

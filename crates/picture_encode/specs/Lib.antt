@@ -5,6 +5,7 @@ pub mod Grids
 pub mod PartsInGrids
 pub mod Copies
 pub mod Shapes
+pub mod IndexedSlices
 pub mod Encoded
 pub mod Rows
 pub mod Parts

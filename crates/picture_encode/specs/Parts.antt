@@ -1,9 +1,8 @@
 -- Parts of a picture's slices, which are encoded apart.
 use Rattle.std.specs.Prelude.{ℕ, ◌+◌, ◌<◌, Bool, List, Result, slice_index_or}
-use Rattle.std.specs.Global.{Vec}
+use Rattle.picture_encode.specs.IndexedSlices.{IndexedSlice}
 use Rattle.picture_encode.specs.declared.grids.PictureGrids.{PictureGrids}
 use Rattle.picture_encode.specs.declared.refusal.SliceRefusal.{SliceRefusal}
-use Rattle.picture_encode.specs.declared.slices.EncodedSlice.{EncodedSlice}
 use Rattle.picture_encode.specs.Encoded.{Chooses, EncodesSlices}
 use Rattle.picture_encode.specs.Grids.{HaveCoefficients}
 use Rattle.vc_types.specs.Planes.{Planes}
@@ -13,7 +12,7 @@ use Rattle.vc_types.specs.TransformParameters.{Parameters}
 
 -- the slices of one of so many parts were encoded, out of these grids, or one was refused
 abbrev pub EncodesPart : Chooses → Bool → Sending → Parameters → PictureGrids → (parts part : ℕ)
-    → Result (Vec EncodedSlice) SliceRefusal → Type 0
+    → Result (List IndexedSlice) SliceRefusal → Type 0
 EncodesPart choice wanted s p grids parts part answer =
     (planes : Planes) → HaveCoefficients p planes grids
     → EncodesSlices choice wanted s planes (share_start (slice_count p) parts part)
@@ -21,7 +20,7 @@ EncodesPart choice wanted s p grids parts part answer =
 
 -- the same of each part, by the answers in order
 abbrev pub EncodesParts : Chooses → Bool → Sending → Parameters → PictureGrids → (parts : ℕ)
-    → List (Result (Vec EncodedSlice) SliceRefusal) → Type 0
+    → List (Result (List IndexedSlice) SliceRefusal) → Type 0
 EncodesParts choice wanted s p grids parts answers =
-    (part : ℕ) (d : Result (Vec EncodedSlice) SliceRefusal) → part < parts
+    (part : ℕ) (d : Result (List IndexedSlice) SliceRefusal) → part < parts
     → EncodesPart choice wanted s p grids parts part (slice_index_or answers part d)

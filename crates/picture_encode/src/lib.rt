@@ -11,6 +11,7 @@ mod picture;
 mod plan;
 mod refusal;
 mod rows;
+mod run;
 mod slices;
 mod transform;
 
@@ -19,4 +20,4 @@ pub use grids::PictureGrids;
 pub use picture::{encode_picture, encode_picture_joined};
 pub use plan::{header_of, plan_of};
 pub use refusal::SliceRefusal;
-pub use slices::EncodedSlice;
+pub use run::EncodedRun;

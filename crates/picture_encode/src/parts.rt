@@ -1,10 +1,11 @@
-ghost use Rattle.std.specs.Prelude.{◌≡◌, ◌+◌, ◌<◌, ◌≤◌, IfOk, vec_len};
+ghost use Rattle.std.specs.Prelude.{◌≡◌, ◌+◌, ◌<◌, ◌≤◌, ◌++◌, IfOk, OnOk, vec_len};
 ghost use Rattle.picture_encode.specs.Answering.{Answers};
 ghost use Rattle.picture_encode.specs.Choosing.{AnswersAtMost127};
-ghost use Rattle.picture_encode.specs.Encoded.{EncodesSlices};
+ghost use Rattle.picture_encode.specs.Encoded.{EncodesRuns, EncodesSlices};
 ghost use Rattle.picture_encode.specs.Grids.{AreGrids, HaveCoefficients};
 ghost use Rattle.picture_encode.specs.Parts.{EncodesPart, EncodesParts};
 ghost use Rattle.link_model.specs.SendingPictures.{sent_parameters};
+ghost use Rattle.vc_types.specs.Fields.{joined};
 ghost use Rattle.vc_types.specs.Planes.{Planes};
 ghost use Rattle.vc_types.specs.SenderSettings.{sending_view};
 ghost use Rattle.vc_types.specs.Subbands.{share_start, slice_count};
@@ -14,22 +15,23 @@ use crate::ceiling::index_ceiling;
 use crate::chooser::Chooser;
 use crate::grids::PictureGrids;
 use crate::refusal::SliceRefusal;
-use crate::slices::{EncodedSlice, SentSlice, encode_slice, push};
+use crate::run::EncodedRun;
+use crate::slices::{SentSlice, encode_slice};
 use std::alloc::Global;
 use std::thread::{Threads, map_indices};
 use vc_slice::SliceParts;
 use vc_types::{NoMemory, Plan, SendSettings, SliceNeed};
 
-/// Slices of a picture that are encoded one after another: from one up to another.
+// Slices of a picture that are encoded one after another: from one up to another.
 #[derive(Clone, Copy)]
-pub(crate) struct Part {
-    pub(crate) from: u32,
-    pub(crate) to: u32,
-    pub(crate) ghost ordered: { from ≤ to },
+struct Part {
+    from: u32,
+    to: u32,
+    ghost ordered: { from ≤ to },
 }
 
 impl Part {
-    /// Part k of n of so many slices.
+    // Part k of n of so many slices.
     fn new(count: u32, n: u32, k: u32) -> Part
         requires part { k < n }
         requires few_slices { count ≤ 131072 }
@@ -56,15 +58,15 @@ fn start(count: u32, n: u32, k: u32) -> u32
     count * k / n
 }
 
-/// Encodes slices of a picture, one after another, up to the first that is refused.
-pub(crate) fn encode_slices<F: Fn(&SliceNeed) -> u8>(
+// Encodes slices of a picture, one after another, up to the first that is refused.
+fn encode_slices<F: Fn(&SliceNeed) -> u8>(
     alloc: Global,
     s: &SendSettings,
     plan: &Plan,
     chooser: &Chooser<F>,
     grids: &PictureGrids,
     part: Part,
-) -> Result<Vec<EncodedSlice>, SliceRefusal>
+) -> Result<EncodedRun, SliceRefusal>
     requires callable { F.IsAlwaysCallable chooser.now.choose }
     requires range { AnswersAtMost127 F.Fn chooser.now.choose }
     requires plan { parameters_of plan.now ≡ sent_parameters (sending_view s.now) }
@@ -76,7 +78,7 @@ pub(crate) fn encode_slices<F: Fn(&SliceNeed) -> u8>(
 {
     let from = part.from;
     let to = part.to;
-    let mut slices = Vec::with_capacity(alloc, (to - from) as usize)?;
+    let mut slices = EncodedRun::with_room(alloc, (to - from) as usize)?;
     let mut near = 127;
     for slice in from..to {
         if slice == from || slice % plan.slices_x == 0 {
@@ -86,7 +88,7 @@ pub(crate) fn encode_slices<F: Fn(&SliceNeed) -> u8>(
         let sent = SentSlice { s, parts };
         let encoded = encode_slice(alloc, &sent, chooser, grids, near)?;
         near = encoded.index;
-        push(&mut slices, encoded)?;
+        slices.push(&encoded)?;
     }
     Ok(slices)
 }
@@ -100,7 +102,7 @@ fn encode_part<F: Fn(&SliceNeed) -> u8>(
     grids: &PictureGrids,
     number: usize,
     parts: usize,
-) -> Result<Vec<EncodedSlice>, SliceRefusal>
+) -> Result<EncodedRun, SliceRefusal>
     requires callable { F.IsAlwaysCallable chooser.now.choose }
     requires range { AnswersAtMost127 F.Fn chooser.now.choose }
     requires plan { parameters_of plan.now ≡ sent_parameters (sending_view s.now) }
@@ -124,7 +126,7 @@ fn encode_each<H: Threads + Sync, F: Fn(&SliceNeed) -> u8 + Sync>(
     chooser: &Chooser<F>,
     grids: &PictureGrids,
     parts: usize,
-) -> Result<Vec<Result<Vec<EncodedSlice>, SliceRefusal>>, NoMemory>
+) -> Result<Vec<Result<EncodedRun, SliceRefusal>>, NoMemory>
     requires callable { F.IsAlwaysCallable chooser.now.choose }
     requires range { AnswersAtMost127 F.Fn chooser.now.choose }
     requires plan { parameters_of plan.now ≡ sent_parameters (sending_view s.now) }
@@ -135,7 +137,7 @@ fn encode_each<H: Threads + Sync, F: Fn(&SliceNeed) -> u8 + Sync>(
         chooser.now.wants_lens (sending_view s.now) (parameters_of plan.now) grids.now parts
         answers.items) }
 {
-    let encode = |number: usize| -> Result<Vec<EncodedSlice>, SliceRefusal>
+    let encode = |number: usize| -> Result<EncodedRun, SliceRefusal>
         requires callable { F.IsAlwaysCallable chooser.now.choose }
         requires range { AnswersAtMost127 F.Fn chooser.now.choose }
         requires plan { parameters_of plan.now ≡ sent_parameters (sending_view s.now) }
@@ -150,6 +152,40 @@ fn encode_each<H: Threads + Sync, F: Fn(&SliceNeed) -> u8 + Sync>(
     Ok(answers)
 }
 
+// Adds a run behind the others.
+fn add(runs: &mut Vec<EncodedRun>, run: EncodedRun) -> Result<(), NoMemory>
+    ensures { OnOk result (joined runs.new.items ≡ joined runs.old.items ++ run) }
+{
+    runs.push(run)?;
+    Ok(())
+}
+
+/// Encodes the slices of a picture in turn, up to the first that is refused.
+pub(crate) fn encode_in_turn<F: Fn(&SliceNeed) -> u8>(
+    alloc: Global,
+    s: &SendSettings,
+    plan: &Plan,
+    chooser: &Chooser<F>,
+    grids: &PictureGrids,
+) -> Result<Vec<EncodedRun>, SliceRefusal>
+    requires callable { F.IsAlwaysCallable chooser.now.choose }
+    requires range { AnswersAtMost127 F.Fn chooser.now.choose }
+    requires plan { parameters_of plan.now ≡ sent_parameters (sending_view s.now) }
+    requires grids { AreGrids (parameters_of plan.now) grids.now }
+    ensures { (planes : Planes) → HaveCoefficients (parameters_of plan.now) planes grids.now
+        → EncodesRuns (Answers F.Fn (sending_view s.now) chooser.now) chooser.now.wants_lens
+        (sending_view s.now) planes 0 (slice_count (parameters_of plan.now)) result }
+{
+    let all = Part {
+        from: 0,
+        to: plan.slices_x * plan.slices_y,
+    };
+    let slices = encode_slices(alloc, s, plan, chooser, grids, all)?;
+    let mut runs = Vec::with_capacity(alloc, 1)?;
+    add(&mut runs, slices)?;
+    Ok(runs)
+}
+
 /// Encodes the slices of a picture by so many parts, each in a thread of its own where one can be
 /// made. The first slice that is refused, by its number, refuses the picture: the parts after it ran
 /// for nothing.
@@ -161,7 +197,7 @@ pub(crate) fn encode_parts<H: Threads + Sync, F: Fn(&SliceNeed) -> u8 + Sync>(
     chooser: &Chooser<F>,
     grids: &PictureGrids,
     parts: usize,
-) -> Result<Vec<EncodedSlice>, SliceRefusal>
+) -> Result<Vec<EncodedRun>, SliceRefusal>
     requires callable { F.IsAlwaysCallable chooser.now.choose }
     requires range { AnswersAtMost127 F.Fn chooser.now.choose }
     requires plan { parameters_of plan.now ≡ sent_parameters (sending_view s.now) }
@@ -169,14 +205,14 @@ pub(crate) fn encode_parts<H: Threads + Sync, F: Fn(&SliceNeed) -> u8 + Sync>(
     requires some { 0 < parts }
     requires few { parts ≤ 64 }
     ensures { (planes : Planes) → HaveCoefficients (parameters_of plan.now) planes grids.now
-        → EncodesSlices (Answers F.Fn (sending_view s.now) chooser.now) chooser.now.wants_lens
+        → EncodesRuns (Answers F.Fn (sending_view s.now) chooser.now) chooser.now.wants_lens
         (sending_view s.now) planes 0 (slice_count (parameters_of plan.now)) result }
 {
     let answers = encode_each(rt, alloc, s, plan, chooser, grids, parts)?;
-    let mut all = Vec::new(alloc);
+    let mut runs = Vec::with_capacity(alloc, parts)?;
     for answer in answers {
-        let mut more = answer?;
-        all.append(&mut more)?;
+        let more = answer?;
+        add(&mut runs, more)?;
     }
-    Ok(all)
+    Ok(runs)
 }

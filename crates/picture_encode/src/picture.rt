@@ -4,6 +4,7 @@ ghost use Rattle.picture_encode.specs.Answering.{Answers};
 ghost use Rattle.picture_encode.specs.Choosing.{AnswersAtMost127};
 ghost use Rattle.picture_encode.specs.Encoded.{AreFirstSlices, IsRefusedPicture};
 ghost use Rattle.picture_encode.specs.Shapes.{CanBeTransformed};
+ghost use Rattle.vc_types.specs.Fields.{joined};
 ghost use Rattle.vc_types.specs.Planes.{planes_in};
 ghost use Rattle.vc_types.specs.SenderSettings.{sending_view};
 ghost use Rattle.vc_types.specs.Subbands.{slice_count};
@@ -11,9 +12,9 @@ ghost use Rattle.vc_types.specs.TransformParameters.{parameters_of};
 
 use crate::chooser::Chooser;
 use crate::grids::PictureGrids;
-use crate::parts::{Part, encode_parts, encode_slices};
+use crate::parts::{encode_in_turn, encode_parts};
 use crate::refusal::SliceRefusal;
-use crate::slices::EncodedSlice;
+use crate::run::EncodedRun;
 use crate::transform::{transform_picture, transform_picture_joined};
 use std::alloc::Global;
 use std::mem::replace;
@@ -35,25 +36,21 @@ pub fn encode_picture<F: Fn(&SliceNeed) -> u8>(
     chooser: &Chooser<F>,
     grids: &mut PictureGrids,
     planes: &[Plane; 3],
-) -> Result<Vec<EncodedSlice>, SliceRefusal>
+) -> Result<Vec<EncodedRun>, SliceRefusal>
     requires callable { F.IsAlwaysCallable chooser.now.choose }
     requires range { AnswersAtMost127 F.Fn chooser.now.choose }
     requires plan { parameters_of plan.now ≡ sent_parameters (sending_view s.now) }
     requires planes { CanBeTransformed (parameters_of plan.now) (planes_in planes.now) }
-    ensures encoded { IfOk result (λ slices. AreFirstSlices
+    ensures encoded { IfOk result (λ runs. AreFirstSlices
         (Answers F.Fn (sending_view s.now) chooser.now) chooser.now.wants_lens (sending_view s.now)
-        (planes_in planes.now) (slice_count (parameters_of plan.now)) slices.items) }
+        (planes_in planes.now) (slice_count (parameters_of plan.now)) (joined runs.items)) }
     ensures refused { IfErr result (λ e. IsRefusedPicture
         (Answers F.Fn (sending_view s.now) chooser.now) chooser.now.wants_lens (sending_view s.now)
         (planes_in planes.now) e) }
 {
     let used = replace(grids, PictureGrids::new(alloc));
     *grids = transform_picture(alloc, plan, planes, used)?;
-    let all = Part {
-        from: 0,
-        to: plan.slices_x * plan.slices_y,
-    };
-    encode_slices(alloc, s, plan, chooser, grids, all)
+    encode_in_turn(alloc, s, plan, chooser, grids)
 }
 
 /// The same by so many threads, at most 64, which each encode a part of the slices; luma is
@@ -67,14 +64,14 @@ pub fn encode_picture_joined<H: Threads + Copy + Send + Sync, F: Fn(&SliceNeed) 
     chooser: &Chooser<F>,
     grids: &mut PictureGrids,
     planes: &[Plane; 3],
-) -> Result<Vec<EncodedSlice>, SliceRefusal>
+) -> Result<Vec<EncodedRun>, SliceRefusal>
     requires callable { F.IsAlwaysCallable chooser.now.choose }
     requires range { AnswersAtMost127 F.Fn chooser.now.choose }
     requires plan { parameters_of plan.now ≡ sent_parameters (sending_view s.now) }
     requires planes { CanBeTransformed (parameters_of plan.now) (planes_in planes.now) }
-    ensures encoded { IfOk result (λ slices. AreFirstSlices
+    ensures encoded { IfOk result (λ runs. AreFirstSlices
         (Answers F.Fn (sending_view s.now) chooser.now) chooser.now.wants_lens (sending_view s.now)
-        (planes_in planes.now) (slice_count (parameters_of plan.now)) slices.items) }
+        (planes_in planes.now) (slice_count (parameters_of plan.now)) (joined runs.items)) }
     ensures refused { IfErr result (λ e. IsRefusedPicture
         (Answers F.Fn (sending_view s.now) chooser.now) chooser.now.wants_lens (sending_view s.now)
         (planes_in planes.now) e) }

@@ -1,8 +1,9 @@
-ghost use Rattle.std.specs.Prelude.{◌≡◌, ◌≤◌, [], ◌∷◌, ◌++◌, IfOk, IfErr, IsTrue, OnOk};
+ghost use Rattle.std.specs.Prelude.{◌≡◌, ◌≤◌, IfOk, IfErr, IsTrue};
 ghost use Rattle.link_model.specs.SendingPictures.{chosen_by, packed_bits, need_of, sent_parameters};
 ghost use Rattle.link_model.specs.SendingPictures.{told_lengths, wants_lengths};
 ghost use Rattle.picture_encode.specs.Answering.{Answers};
 ghost use Rattle.picture_encode.specs.Choosing.{AnswersAtMost127, AnswersNeed};
+ghost use Rattle.picture_encode.specs.IndexedSlices.{indexed_slice};
 ghost use Rattle.picture_encode.specs.Encoded.{IsEncodedAt, RefusesAt, IsEncoded, IsRefusedSlice};
 ghost use Rattle.picture_encode.specs.Grids.{HaveCoefficients};
 ghost use Rattle.picture_encode.specs.PartsInGrids.{AreGrids, AreOf};
@@ -29,23 +30,15 @@ const HEADS: u32 = 32;
 
 /// An encoded slice, and the quantisation index that it has.
 #[derive(Drop)]
-pub struct EncodedSlice {
-    pub index: u8,
-    pub bytes: Vec<u8>,
+pub(crate) struct EncodedSlice {
+    pub(crate) index: u8,
+    pub(crate) bytes: Vec<u8>,
 }
 
 // Bytes are their own bits, packed.
 fn bits_are_packed(bytes: &[u8])
     ensures { packed_bits (bits_of bytes.now) ≡ bytes.now }
 {}
-
-/// Adds an encoded slice.
-pub(crate) fn push(slices: &mut Vec<EncodedSlice>, slice: EncodedSlice) -> Result<(), NoMemory>
-    ensures { OnOk result (slices.new.items ≡ slices.old.items ++ slice ∷ []) }
-{
-    slices.push(slice)?;
-    Ok(())
-}
 
 /// A slice of a picture that is sent: by these settings, in the plan that they make.
 #[derive(Clone, Copy)]
@@ -69,7 +62,8 @@ pub(crate) fn encode_slice<F: Fn(&SliceNeed) -> u8>(
     ensures encoded { IfOk result (λ e. (planes : Planes)
         → HaveCoefficients (parameters_of sent.now.parts.plan) planes grids.now
         → IsEncoded (Answers F.Fn (sending_view sent.now.s.now) chooser.now)
-        chooser.now.wants_lens (sending_view sent.now.s.now) planes sent.now.parts.slice e) }
+        chooser.now.wants_lens (sending_view sent.now.s.now) planes sent.now.parts.slice
+        (indexed_slice e)) }
     ensures refused { IfErr result (λ e. (planes : Planes)
         → HaveCoefficients (parameters_of sent.now.parts.plan) planes grids.now
         → IsRefusedSlice (Answers F.Fn (sending_view sent.now.s.now) chooser.now)

@@ -2,6 +2,7 @@ use Rattle.std.proofs.Common.{◌≡◌, Err, false, true, rules, arith}
 use Rattle.std.proofs.lemmas.Grind.{common_steps}
 use Rattle.picture_encode.specs.Answering.{Answers}
 use Rattle.picture_encode.specs.declared.refusal.SliceRefusal.TheVariants.{NoMemory}
+use Rattle.vc_types.specs.Fields.{joined}
 use Rattle.vc_types.specs.Planes.{planes_in}
 use Rattle.vc_types.specs.SenderSettings.{sending_view}
 use Rattle.vc_types.specs.TransformParameters.{parameters_of}
@@ -21,7 +22,7 @@ returns-in_err-first g c = grind (arith, common_steps, whole_refused)
 pub returns-then-not-s : goal.returns-then-not-s
 returns-then-not-s g c =
     let single : c.args.s.now.fields ≡ false = search rules in
-    whole_encoded (Answers g.F.Fn (sending_view c.args.s.now) c.args.chooser.now) c.args.chooser.now.wants_lens (sending_view c.args.s.now) (planes_in c.args.frame.now) c.requires.sizes c.requires.samples (parameters_of c.args.plan.now) c.requires.plan single c.in_ok-first.first.items c.in_ok-first.ensures.encoded
+    whole_encoded (Answers g.F.Fn (sending_view c.args.s.now) c.args.chooser.now) c.args.chooser.now.wants_lens (sending_view c.args.s.now) (planes_in c.args.frame.now) c.requires.sizes c.requires.samples (parameters_of c.args.plan.now) c.requires.plan single (joined c.in_ok-first.first.items) c.in_ok-first.ensures.encoded
 
 pub split-requires : goal.split-requires
 split-requires g c =
@@ -57,9 +58,9 @@ returns-in_err-second g c =
     let double : c.args.s.now.fields ≡ true = search rules in
     let e = c.in_err-second.field-0.0 in
     let same : c.from_residual-in_err-second.result ≡ Err e = search rules in
-    rw same (second_field_refused (Answers g.F.Fn (sending_view c.args.s.now) c.args.chooser.now) c.args.chooser.now.wants_lens (sending_view c.args.s.now) (planes_in c.args.frame.now) c.requires.sizes c.requires.samples (parameters_of c.args.plan.now) c.requires.plan (planes_in c.in_ok-earlier.earlier) (planes_in c.in_ok-earlier.later) double c.in_ok-earlier.ensures.value c.in_ok-first-2.first.items e c.in_ok-first-2.ensures.encoded c.in_err-second.ensures.refused)
+    rw same (second_field_refused (Answers g.F.Fn (sending_view c.args.s.now) c.args.chooser.now) c.args.chooser.now.wants_lens (sending_view c.args.s.now) (planes_in c.args.frame.now) c.requires.sizes c.requires.samples (parameters_of c.args.plan.now) c.requires.plan (planes_in c.in_ok-earlier.earlier) (planes_in c.in_ok-earlier.later) double c.in_ok-earlier.ensures.value (joined c.in_ok-first-2.first.items) e c.in_ok-first-2.ensures.encoded c.in_err-second.ensures.refused)
 
 pub returns : goal.returns
 returns g c =
     let double : c.args.s.now.fields ≡ true = search rules in
-    fields_encoded (Answers g.F.Fn (sending_view c.args.s.now) c.args.chooser.now) c.args.chooser.now.wants_lens (sending_view c.args.s.now) (planes_in c.args.frame.now) c.requires.sizes c.requires.samples (parameters_of c.args.plan.now) c.requires.plan (planes_in c.in_ok-earlier.earlier) (planes_in c.in_ok-earlier.later) double c.in_ok-earlier.ensures.value c.in_ok-first-2.first.items c.in_ok-second.second.items c.in_ok-first-2.ensures.encoded c.in_ok-second.ensures.encoded
+    fields_encoded (Answers g.F.Fn (sending_view c.args.s.now) c.args.chooser.now) c.args.chooser.now.wants_lens (sending_view c.args.s.now) (planes_in c.args.frame.now) c.requires.sizes c.requires.samples (parameters_of c.args.plan.now) c.requires.plan (planes_in c.in_ok-earlier.earlier) (planes_in c.in_ok-earlier.later) double c.in_ok-earlier.ensures.value (joined c.in_ok-first-2.first.items) (joined c.in_ok-second.second.items) c.in_ok-first-2.ensures.encoded c.in_ok-second.ensures.encoded

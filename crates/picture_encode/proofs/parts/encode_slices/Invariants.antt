@@ -9,4 +9,4 @@ use Rattle.picture_encode.proofs.parts.encode_slices.Given as goal
 abbrev pub invariant-loop-slice : goal.invariant-loop-slice
 invariant-loop-slice g l =
     (planes : Planes) → HaveCoefficients (parameters_of l.plan) planes l.grids
-    → AreSlices (Answers g.F.Fn (sending_view l.s) l.chooser) l.chooser.wants_lens (sending_view l.s) planes l.fn.part.from l.slice l.slices.items
+    → AreSlices (Answers g.F.Fn (sending_view l.s) l.chooser) l.chooser.wants_lens (sending_view l.s) planes l.fn.part.from l.slice l.slices

@@ -4,6 +4,7 @@ use Rattle.stream_model.specs.Packing.{slices_room}
 use Rattle.link_model.specs.SendingPictures.{slice_room}
 use Rattle.picture_encode.specs.Encoded.{bytes_of_slices}
 use Rattle.vc_types.specs.Bits.{bits_of}
+use Rattle.vc_types.specs.Fields.{joined}
 use Rattle.vc_types.specs.SenderSettings.{packing_view, sending_view}
 use Rattle.vc_types.specs.SequenceHeader.{sequence_of}
 use Rattle.vc_types.specs.TransformParameters.{parameters_of}
@@ -39,14 +40,14 @@ pub put_encoded-requires-clause-count : goal.put_encoded-requires-clause-count
 put_encoded-requires-clause-count g c = c.requires.whole.count ∙ sent_slice_count (sending_view c.args.self.now.settings) (parameters_of c.picture-picture.result.plan.now) c.picture-picture.ensures.parameters_are
 
 pub put_encoded-requires-clause-fit : goal.put_encoded-requires-clause-fit
-put_encoded-requires-clause-fit g c = all_fit (sending_view c.args.self.now.settings) c.picture-picture.result (bytes_of_slices c.args.slices.now) c.picture-picture.ensures.settings_are c.requires.whole.sized
+put_encoded-requires-clause-fit g c = all_fit (sending_view c.args.self.now.settings) c.picture-picture.result (bytes_of_slices (joined c.args.slices.now)) c.picture-picture.ensures.settings_are c.requires.whole.sized
 
 pub returns : goal.returns
 returns g c =
     let s = sending_view c.args.self.now.settings in
     let picture = picture_at s c.args.place.now in
     let p = c.picture-picture.result in
-    let runs = λ (room : ℕ). map SlicesContent (runs_of_slices room (bytes_of_slices c.args.slices.now)) in
+    let runs = λ (room : ℕ). map SlicesContent (runs_of_slices room (bytes_of_slices (joined c.args.slices.now))) in
     let is = c.picture-picture.ensures in
     let room : slices_room (packing_view p.settings) ≡ slice_room s = ap slices_room is.settings_are in
     then_ok c.put_encoded.result c.put_encoded.ensures
