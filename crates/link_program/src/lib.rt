@@ -4,7 +4,6 @@
 mod link;
 mod page;
 mod wanted;
-mod words;
 
 pub use link::link_main;
-pub use words::run_words;
+pub use page::print_page;

@@ -8,7 +8,7 @@ const VERSION: &str = "vc2link 1.0\n";
 
 /// Prints the text that the words ask for, `--help`, `--version` or a command and `--help`, and answers the
 /// status; none where the words are others, which `link_main` reads.
-pub(crate) fn print_page<O: Sink>(alloc: Global, words: &Words, output: &mut O) -> Option<u8> {
+pub fn print_page<O: Sink>(alloc: Global, words: &Words, output: &mut O) -> Option<u8> {
     match page_of_words(alloc, words)? {
         Ok(page) => match write_all(output, page.as_bytes()) {
             Ok(()) => Some(0),

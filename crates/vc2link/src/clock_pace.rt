@@ -15,8 +15,8 @@ const GROUP: u64 = 500_000;
 ///
 /// The datagrams of a picture go out evenly up to the moment of the next picture, none before the moment of
 /// its own timestamp. Where a picture comes late, it has what is left of its time; where less than a quarter
-/// is left, the schedule moves, so that a quarter is left. Where nobody knows how long a picture's time is and
-/// how many datagrams it has, both are taken to be as they were for the picture before.
+/// is left, the schedule moves, so that a quarter is left. Where nobody knows how long a picture's time is
+/// and how many datagrams it has, both are taken to be as they were for the picture before.
 #[derive(Drop)]
 pub(crate) struct ClockPace<C> {
     clock: C,

@@ -7,7 +7,7 @@ mod std_streams;
 
 use clock_pace::ClockPace;
 use link_net::{Launcher, Limits, LiveWire, Reader};
-use link_program::run_words;
+use link_program::{link_main, print_page};
 use link_report::Ending;
 use link_words::{Settings, read_words};
 use notes::{say_help, say_no_text, say_notes};
@@ -63,8 +63,8 @@ fn words_of(rt: &HostRuntime) -> Result<Words, u8> {
 const AHEAD: usize = 65_536;
 
 // How many bytes of standard input are read ahead. `decode` and `unpack` read a capture in many small pieces,
-// and to its end, so that nobody reads behind them. With `--packets` they may stop before, and the rest is left
-// to whoever reads next: without it the number is the greatest.
+// and to its end, so that nobody reads behind them. With `--packets` they may stop before, and the rest is
+// left to whoever reads next: without it the number is the greatest.
 fn read_ahead(words: &Words) -> usize {
     match read_words(words) {
         Ok(Settings::Decode { packets, .. } | Settings::Unpack { packets, .. })
@@ -79,7 +79,8 @@ const LIMITS: Limits = Limits {
     system: 64 << 20,
 };
 
-// Does what the words say with a crew and a wire at hand, which are stopped whatever that came to.
+// Prints the page that the words ask for. Otherwise does what they say with a crew and a wire at hand, which
+// are stopped whatever that came to.
 fn run<H: Threads + Wait + Net + Clock + Copy + Send + Sync + 'static, S: Source, O: Sink, E: Sink>(
     rt: H,
     alloc: Global,
@@ -89,13 +90,16 @@ fn run<H: Threads + Wait + Net + Clock + Copy + Send + Sync + 'static, S: Source
     report: &mut E,
     launcher: Launcher,
 ) -> u8 {
+    if let Some(status) = print_page(alloc, words, output) {
+        return status;
+    }
     let Ok(gate) = Arc::new(alloc, NoGate) else {
         return Ending::NoMemory.status();
     };
     let mut wire = LiveWire::new(rt, alloc, LIMITS, launcher);
     let mut pace = ClockPace::new(rt);
     let mut crew = Crew::new(rt, alloc, |worker: Worker| worker.start(rt, &gate));
-    let status = run_words(
+    let status = link_main(
         rt, alloc, words, input, output, report, &mut wire, &mut pace, &mut crew,
     );
     crew.stop();

@@ -2,8 +2,8 @@ use link_net::{BacklogNotes, WireNotes};
 use std::alloc::{AllocError, Global};
 use vc_ports::{Sink, write_all};
 
-/// Says after the report what the network did, each on a line of its own. A line for which there is no memory,
-/// or that can't be written, is left out.
+/// Says after the report what the network did, each on a line of its own. A line for which there is no
+/// memory, or that can't be written, is left out.
 pub(crate) fn say_notes<E: Sink>(
     alloc: Global,
     notes: &WireNotes,

@@ -10,6 +10,7 @@ pub struct AtOnce {
 }
 
 impl AtOnce {
+    /// An empty place.
     pub fn new(alloc: Global) -> AtOnce {
         AtOnce { alloc, done: None }
     }

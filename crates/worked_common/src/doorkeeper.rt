@@ -15,6 +15,7 @@ pub struct Doorkeeper {
 }
 
 impl Doorkeeper {
+    /// Nobody came yet.
     pub fn new() -> Doorkeeper {
         Doorkeeper {
             held: AtomicU64::new(0),

@@ -1,9 +1,9 @@
 ghost use Rattle.std.specs.Prelude.{◌≡◌, Err, None};
 
-use vc_slice::{Hands, Places, RunDone, RunLoad};
+use vc_slice::{Hands, NoPlaces, Places, RunDone, RunLoad};
 use vc_types::NoMemory;
 
-/// No place at all, and no memory for workers.
+/// The places of `NoPlaces`, and no memory for workers.
 #[derive(Clone, Copy)]
 pub struct NoWorkers;
 
@@ -17,25 +17,26 @@ impl Places for NoWorkers {
     fn put(&mut self, load: RunLoad) -> Result<u32, RunLoad>
         ensures value { result ≡ Err load }
     {
-        Err(load)
+        NoPlaces.put(load)
     }
 
-    // There is no place to ask of, so none is asked for here.
-    fn take(&mut self, _place: u32) -> Option<RunDone>
+    fn take(&mut self, place: u32) -> Option<RunDone>
         ensures value { result ≡ None }
     {
-        None
+        NoPlaces.take(place)
     }
 
-    fn withdraw(&mut self, _place: u32) -> Option<RunLoad>
+    fn withdraw(&mut self, place: u32) -> Option<RunLoad>
         ensures value { result ≡ None }
     {
-        None
+        NoPlaces.withdraw(place)
     }
 
-    fn leave(&mut self, _place: u32)
+    fn leave(&mut self, place: u32)
         ensures unchanged { self.new ≡ self.old }
-    {}
+    {
+        NoPlaces.leave(place);
+    }
 }
 
 impl Hands for NoWorkers {

@@ -16,16 +16,20 @@ pub struct Recorder {
     asked: Vec<u32>,
     freed: Vec<u32>,
     started: Vec<u32>,
+    // Whether a place was asked that had been freed before.
+    asked_freed: bool,
     is_full: bool,
 }
 
 impl Recorder {
+    /// Nothing was asked yet, and there is room for so many questions of each kind.
     pub fn new(alloc: Global, room: usize) -> Result<Recorder, AllocError> {
         Ok(Recorder {
             offered: Vec::with_capacity(alloc, room)?,
             asked: Vec::with_capacity(alloc, room)?,
             freed: Vec::with_capacity(alloc, room)?,
             started: Vec::with_capacity(alloc, room)?,
+            asked_freed: false,
             is_full: false,
         })
     }
@@ -51,6 +55,11 @@ impl Recorder {
     /// The places that were freed, in this order.
     pub fn freed(&self) -> &[u32] {
         self.freed.as_slice()
+    }
+
+    /// Whether a place was asked after it was freed.
+    pub fn asked_freed(&self) -> bool {
+        self.asked_freed
     }
 
     /// How many workers were started each time.
@@ -87,6 +96,9 @@ impl Places for Recorder {
     }
 
     fn take(&mut self, place: u32) -> Option<RunDone> {
+        if self.freed.contains(&place) {
+            self.asked_freed = true;
+        }
         if self.asked.len() >= self.asked.capacity() {
             self.is_full = true;
         } else {

@@ -34,6 +34,7 @@ pub struct TwoPlaces {
 }
 
 impl TwoPlaces {
+    /// Two empty places.
     pub fn new(alloc: Global, given: Given) -> TwoPlaces {
         TwoPlaces {
             alloc,

@@ -3,7 +3,7 @@ use crate::lossy_wire::LossyWire;
 use crate::numbers::{Each, Number};
 use crate::setup::{Setup, Telling};
 use crate::turn_log::TurnLog;
-use link_program::run_words;
+use link_program::{link_main, print_page};
 use std::alloc::Global;
 use std::thread::Threads;
 use vc_ports::{Got, MemSink, MemSource, MemWire, Source, UntoldWire, Wire};
@@ -71,7 +71,10 @@ impl Bench {
     ) -> u8
         requires { P.is_free hands.old }
     {
-        run_words(
+        if let Some(status) = print_page(alloc, &setup.words, &mut self.output) {
+            return status;
+        }
+        link_main(
             rt,
             alloc,
             &setup.words,
