@@ -96,7 +96,7 @@ fn add_uncounted(r: &mut BitReader, name: &str, said: &mut Said) -> Result<(), B
 
 /// What reads of bits answer, one after another.
 pub(crate) fn read(parts: &[NamedBytes], given: &str, said: &mut Said) -> Result<(), Bad> {
-    let (bytes, reads) = parted(given)?;
+    let (bytes, reads) = parted(given);
     let bytes = bytes_of(said.alloc(), parts, bytes)?;
     let mut r = BitReader::new(bytes.as_slice());
     for word in reads.split_whitespace() {
@@ -127,7 +127,7 @@ fn add_block_reads(block: Block, reads: &str, said: &mut Said) -> Result<(), Bad
 
 /// What reads of a block's bits answer, one after another.
 pub(crate) fn read_block(parts: &[NamedBytes], given: &str, said: &mut Said) -> Result<(), Bad> {
-    let (bytes, reads) = parted(given)?;
+    let (bytes, reads) = parted(given);
     let bytes = bytes_of(said.alloc(), parts, bytes)?;
     let mut r = BitReader::new(bytes.as_slice());
     match r.block(bytes.len()) {
@@ -170,7 +170,7 @@ fn write_bit(w: &mut BitWriter, word: &str) -> Result<(), Bad> {
 
 /// The bytes of bits that are written one after another, by a writer that has room for so many bytes.
 pub(crate) fn write(given: &str, said: &mut Said) -> Result<(), Bad> {
-    let (room, writes) = parted(given)?;
+    let (room, writes) = parted(given);
     let mut w = BitWriter::with_room(said.alloc(), natural(room)? as usize)?;
     for word in writes.split_whitespace() {
         write_word(&mut w, word)?;

@@ -2,14 +2,14 @@
 ghost use Rattle.std.specs.Prelude.{◌≤◌, ◌<◌, ◌+◌, ◌^◌, ℕ, IfOk, IsTrue};
 ghost use Rattle.pcap_in.specs.Feeding.{IsReady};
 
-use crate::ports::fails;
+use crate::ports::{add_left, failing_source, fails};
 use crate::said::Said;
 use crate::words::{bytes_of, natural, parted};
 use pcap_in::{
     CarriedFeed, Fed, Network, Payload, PcapFault, PcapReader, carried, next_payload, next_record,
 };
 use std::alloc::Global;
-use vc_ports::{MemSource, Source};
+use vc_ports::{MemSource, PlainSource, Source};
 use worked_common::{Bad, NamedBytes};
 
 fn network(word: &str) -> Result<Network, Bad> {
@@ -52,7 +52,7 @@ struct Wanted {
 }
 
 fn wanted_of(alloc: Global, parts: &[NamedBytes], given: &str) -> Result<Wanted, Bad> {
-    let (front, bytes) = parted(given)?;
+    let (front, bytes) = parted(given);
     let (network, port) = network_and_port(front)?;
     Ok(Wanted {
         network,
@@ -82,15 +82,14 @@ pub(crate) fn carried_cuts(parts: &[NamedBytes], given: &str, said: &mut Said) -
     Ok(())
 }
 
-fn add_fault(fault: PcapFault, said: &mut Said) -> Result<(), Bad> {
+fn add_fault(fault: PcapFault, said: &mut Said) {
     match fault {
         PcapFault::Header { place } => write!(said, "header@{place} "),
         PcapFault::Cut { place } => write!(said, "cut@{place} "),
         PcapFault::Length { place } => write!(said, "length@{place} "),
         PcapFault::ReadFault => said.word("read"),
-        PcapFault::NoMemory => return Err(Bad::NoMemory),
+        PcapFault::NoMemory => said.word("memory"),
     }
-    Ok(())
 }
 
 fn add_kept(kept: &[u8], said: &mut Said) {
@@ -98,46 +97,51 @@ fn add_kept(kept: &[u8], said: &mut Said) {
     said.bytes(kept);
 }
 
-fn add_record<S: Source>(reader: &mut PcapReader<S>, said: &mut Said) -> Result<(), Bad>
+fn add_record<S: Source>(reader: &mut PcapReader<S>, said: &mut Said)
     requires { reader.old.place < 2 ^ 62 }
     ensures { reader.new.place ≤ reader.old.place + 262184 }
 {
     match next_record(reader) {
         Ok(Some(kept)) => add_kept(kept.as_slice(), said),
         Ok(None) => said.word("end"),
-        Err(fault) => return add_fault(fault, said),
+        Err(fault) => add_fault(fault, said),
     }
-    Ok(())
 }
 
-// A source of bytes, whose calls of these numbers fail.
-fn source(alloc: Global, parts: &[NamedBytes], given: &str) -> Result<MemSource, Bad> {
-    let (numbers, bytes) = parted(given)?;
-    let bytes = bytes_of(alloc, parts, bytes)?;
-    Ok(MemSource::new(bytes, fails(alloc, numbers)?))
+fn add_records<S: Source>(source: &mut S, said: &mut Said) {
+    let mut reader = PcapReader::new(said.alloc(), source);
+    add_record(&mut reader, said);
+    add_record(&mut reader, said);
+    add_record(&mut reader, said);
+    add_record(&mut reader, said);
+    add_record(&mut reader, said);
 }
 
 /// What five reads of a record answer, where the reads of these numbers fail.
 pub(crate) fn records(parts: &[NamedBytes], given: &str, said: &mut Said) -> Result<(), Bad> {
-    let mut source = source(said.alloc(), parts, given)?;
-    let mut reader = PcapReader::new(said.alloc(), &mut source);
-    add_record(&mut reader, said)?;
-    add_record(&mut reader, said)?;
-    add_record(&mut reader, said)?;
-    add_record(&mut reader, said)?;
-    add_record(&mut reader, said)
+    let mut source = failing_source(said.alloc(), parts, given)?;
+    add_records(&mut source, said);
+    Ok(())
+}
+
+/// The same, and how many bytes are left.
+pub(crate) fn records_left(parts: &[NamedBytes], given: &str, said: &mut Said) -> Result<(), Bad> {
+    let mut source = failing_source(said.alloc(), parts, given)?;
+    add_records(&mut source, said);
+    add_left(&mut source, said);
+    Ok(())
 }
 
 fn add_first(bytes: &[u8], said: &mut Said) -> Result<(), Bad> {
-    let owned = Vec::from_slice(said.alloc(), bytes)?;
-    let mut source = MemSource::new(owned, Vec::new(said.alloc()));
+    let mut source = PlainSource::new(Vec::from_slice(said.alloc(), bytes)?);
     let mut reader = PcapReader::new(said.alloc(), &mut source);
-    add_record(&mut reader, said)
+    add_record(&mut reader, said);
+    Ok(())
 }
 
 /// What the first read answers of the first 0, 1, 2, .. and all of the bytes.
 pub(crate) fn record_cuts(parts: &[NamedBytes], given: &str, said: &mut Said) -> Result<(), Bad> {
-    let (_, bytes) = parted(given)?;
+    let (_, bytes) = parted(given);
     let bytes = bytes_of(said.alloc(), parts, bytes)?;
     for length in 0..=bytes.len() {
         add_first(bytes.get(..length).unwrap_or(bytes.as_slice()), said)?;
@@ -179,7 +183,7 @@ fn add_fed<S: Source>(
             Ok(true)
         }
         Err(fault) => {
-            add_fault(fault, said)?;
+            add_fault(fault, said);
             Ok(false)
         }
     }
@@ -229,7 +233,7 @@ fn front_of(text: &str) -> Result<(u16, u32, &str), Bad> {
 }
 
 fn asked_of(alloc: Global, parts: &[NamedBytes], given: &str) -> Result<Asked, Bad> {
-    let (front, bytes) = parted(given)?;
+    let (front, bytes) = parted(given);
     let (port, packets, numbers) = front_of(front)?;
     let bytes = bytes_of(alloc, parts, bytes)?;
     Ok(Asked {

@@ -63,7 +63,7 @@ pub(crate) fn signed_at_once(given: &str, said: &mut Said) -> Result<(), Bad> {
 
 // How many zeros, and the number behind them.
 fn zeros_and_last(given: &str) -> Result<(u32, i64), Bad> {
-    let (zeros, last) = parted(given)?;
+    let (zeros, last) = parted(given);
     let zeros = natural(zeros)?;
     match i64::try_from(number(last)?) {
         Ok(last) => Ok((zeros, last)),
@@ -114,7 +114,7 @@ fn add_all(r: &mut BitReader, most: u32, said: &mut Said) -> Result<(), Bad> {
 /// The numbers up to a greatest one that are read of bytes by their unsigned codes, why the next one isn't,
 /// and after how many bits.
 pub(crate) fn read_unsigned(parts: &[NamedBytes], given: &str, said: &mut Said) -> Result<(), Bad> {
-    let (most, bytes) = parted(given)?;
+    let (most, bytes) = parted(given);
     let most = natural(most)?;
     let bytes = bytes_of(said.alloc(), parts, bytes)?;
     let mut r = BitReader::new(bytes.as_slice());
@@ -153,7 +153,7 @@ pub(crate) fn add_signed(block: &Block, count: u32, most: u64, said: &mut Said) 
 
 /// So many numbers, up to a greatest magnitude, that are read of a block by their signed codes.
 pub(crate) fn read_signed(parts: &[NamedBytes], given: &str, said: &mut Said) -> Result<(), Bad> {
-    let (front, bytes) = parted(given)?;
+    let (front, bytes) = parted(given);
     let (count, most) = count_and_most(front)?;
     let bytes = bytes_of(said.alloc(), parts, bytes)?;
     let mut r = BitReader::new(bytes.as_slice());
@@ -180,7 +180,7 @@ pub(crate) fn read_signed_at_once(
     given: &str,
     said: &mut Said,
 ) -> Result<(), Bad> {
-    let (count, bytes) = parted(given)?;
+    let (count, bytes) = parted(given);
     let count = natural(count)?;
     let bytes = bytes_of(said.alloc(), parts, bytes)?;
     let mut r = BitReader::new(bytes.as_slice());

@@ -166,7 +166,7 @@ pub(crate) fn payload_written(
     given: &str,
     said: &mut Said,
 ) -> Result<(), Bad> {
-    let (before, bytes) = parted(given)?;
+    let (before, bytes) = parted(given);
     let mut out = bytes_of(said.alloc(), parts, before)?;
     let bytes = bytes_of(said.alloc(), parts, bytes)?;
     let Ok(payload) = read_payload(bytes.as_slice()) else {

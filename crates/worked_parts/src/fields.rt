@@ -97,9 +97,9 @@ struct Fields {
 }
 
 fn fields_of(alloc: Global, given: &str) -> Result<Fields, Bad> {
-    let (front, both) = parted(given)?;
+    let (front, both) = parted(given);
     let sizes = sizes_of(front)?;
-    let (first, second) = parted(both)?;
+    let (first, second) = parted(both);
     Ok(Fields {
         first: planes(alloc, &sizes, first)?,
         second: planes(alloc, &sizes, second)?,
@@ -134,7 +134,7 @@ fn add_split(frame: &[Plane; 3], top_first: bool, said: &mut Said) -> Result<(),
 
 /// The two fields of a frame, the earlier first.
 pub(crate) fn parts(given: &str, said: &mut Said) -> Result<(), Bad> {
-    let (front, frame) = parted(given)?;
+    let (front, frame) = parted(given);
     let sizes = sizes_of(front)?;
     let frame = planes(said.alloc(), &sizes, frame)?;
     if !have_even_heights(&frame) {

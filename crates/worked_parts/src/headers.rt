@@ -92,7 +92,7 @@ fn profile_of(word: &str) -> Result<u8, Bad> {
 
 /// The same of the profile that stands before a colon.
 pub(crate) fn header_of(parts: &[NamedBytes], given: &str, said: &mut Said) -> Result<(), Bad> {
-    let (profile, given) = parted(given)?;
+    let (profile, given) = parted(given);
     let profile = profile_of(profile)?;
     let bytes = bytes_of(said.alloc(), parts, given)?;
     add_read(read_header_of(profile, bytes.as_slice()), said);
@@ -144,27 +144,6 @@ fn sampling_of(number: u32) -> Result<Sampling, Bad> {
     }
 }
 
-fn make_range(
-    luma_offset: u32,
-    luma_excursion: u32,
-    colour_offset: u32,
-    colour_excursion: u32,
-) -> SignalRange
-    ensures { result ≡ record {
-      luma_offset = luma_offset;
-      luma_excursion = luma_excursion;
-      colour_offset = colour_offset;
-      colour_excursion = colour_excursion;
-    } }
-{
-    SignalRange {
-        luma_offset,
-        luma_excursion,
-        colour_offset,
-        colour_excursion,
-    }
-}
-
 #[tactic(auto, unfolding(vc_types::specs::Video::range_of))]
 fn preset_range(index: u32) -> SignalRange
     requires { (1 ≤ index) × (index ≤ 4) }
@@ -173,10 +152,30 @@ fn preset_range(index: u32) -> SignalRange
     ensures colour { IsTrue (excursion_fits result.colour_excursion) }
 {
     match index {
-        1 => make_range(0, 255, 128, 255),
-        2 => make_range(16, 219, 128, 224),
-        3 => make_range(64, 876, 512, 896),
-        _ => make_range(256, 3504, 2048, 3584),
+        1 => SignalRange {
+            luma_offset: 0,
+            luma_excursion: 255,
+            colour_offset: 128,
+            colour_excursion: 255,
+        },
+        2 => SignalRange {
+            luma_offset: 16,
+            luma_excursion: 219,
+            colour_offset: 128,
+            colour_excursion: 224,
+        },
+        3 => SignalRange {
+            luma_offset: 64,
+            luma_excursion: 876,
+            colour_offset: 512,
+            colour_excursion: 896,
+        },
+        _ => SignalRange {
+            luma_offset: 256,
+            luma_excursion: 3504,
+            colour_offset: 2048,
+            colour_excursion: 3584,
+        },
     }
 }
 

@@ -2,7 +2,7 @@ use crate::said::Said;
 use crate::words::spread;
 use crate::{
     bits, captures, codes, datagrams, fields, headers, lines, low_delay, narrow_planes, parameters,
-    places, planes, ports, quantisers, reports, runs, sizes, slices, wires,
+    places, planes, ports, quantisers, reading, reports, runs, sizes, slices, wires,
 };
 use std::alloc::Global;
 use worked_common::{Bad, NamedBytes};
@@ -151,8 +151,11 @@ fn add_of_captures(
         "carried" => captures::carried_by(parts, given, said),
         "carried-cuts" => captures::carried_cuts(parts, given, said),
         "records" => captures::records(parts, given, said),
+        "records-left" => captures::records_left(parts, given, said),
         "record-cuts" => captures::record_cuts(parts, given, said),
         "fed" => captures::fed(parts, given, said),
+        "units" => reading::units(parts, given, said),
+        "entries" => reading::entries(parts, given, said),
         _ => add_of_quantisers(kind, given, said),
     }
 }

@@ -44,7 +44,7 @@ fn change_line(wavelet: u8, line: &mut [i128], undo: bool) -> Result<(), Bad>
 fn of_wavelet(given: &str) -> Result<(u8, &str), Bad>
     ensures { IfOk result (λ x. x.0 ≤ 6) }
 {
-    let (word, rest) = parted(given)?;
+    let (word, rest) = parted(given);
     let wavelet = wavelet_of(word)?;
     Ok((wavelet, rest))
 }
@@ -176,7 +176,7 @@ fn wavelet_and_width(text: &str) -> Result<(u8, usize), Bad>
 }
 
 fn columns_changed(given: &str, undo: bool, said: &mut Said) -> Result<(), Bad> {
-    let (front, cells) = parted(given)?;
+    let (front, cells) = parted(given);
     let (wavelet, width) = wavelet_and_width(front)?;
     let mut cells = numbers(said.alloc(), cells)?;
     change_columns(wavelet, cells.as_mut_slice(), width, undo)?;

@@ -80,7 +80,7 @@ fn add_decoded(p: &LowPlan, bytes: &[u8], said: &mut Said) -> Result<(), Bad> {
 /// The samples of a low-delay picture, or why it has none: a sequence header and parameters : the bytes of
 /// its slices.
 pub(crate) fn low_picture(parts: &[NamedBytes], given: &str, said: &mut Said) -> Result<(), Bad> {
-    let (plan, bytes) = parted(given)?;
+    let (plan, bytes) = parted(given);
     let p = low_plan_of(said.alloc(), parts, plan)?;
     let bytes = bytes_of(said.alloc(), parts, bytes)?;
     add_decoded(&p, bytes.as_slice(), said)

@@ -19,6 +19,7 @@ mod planes;
 mod plans;
 mod ports;
 mod quantisers;
+mod reading;
 mod reports;
 mod runs;
 mod said;

@@ -92,7 +92,7 @@ pub(crate) fn plan_planes(parts: &[NamedBytes], given: &str, said: &mut Said) ->
 
 // A plan, and the major version of a stream.
 fn versioned(alloc: Global, parts: &[NamedBytes], given: &str) -> Result<(u32, Plan), Bad> {
-    let (major, plan) = parted(given)?;
+    let (major, plan) = parted(given);
     Ok((natural(major)?, plan_of(alloc, parts, plan)?))
 }
 

@@ -123,6 +123,6 @@ fn planned_of(alloc: Global, text: &str) -> Result<PlannedPlane, Bad> {
 
 /// A plan and a component, and what stands behind them.
 pub(crate) fn planned(alloc: Global, given: &str) -> Result<(PlannedPlane, &str), Bad> {
-    let (front, rest) = parted(given)?;
+    let (front, rest) = parted(given);
     Ok((planned_of(alloc, front)?, rest))
 }

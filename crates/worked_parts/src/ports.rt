@@ -51,14 +51,33 @@ fn add_reads<S: Source>(source: &mut S, sizes: &str, said: &mut Said) -> Result<
     Ok(())
 }
 
+/// A source of bytes, whose calls of these numbers fail.
+pub(crate) fn failing_source(
+    alloc: Global,
+    parts: &[NamedBytes],
+    given: &str,
+) -> Result<MemSource, Bad> {
+    let (numbers, bytes) = parted(given);
+    let bytes = bytes_of(alloc, parts, bytes)?;
+    Ok(MemSource::new(bytes, fails(alloc, numbers)?))
+}
+
+/// How many bytes a source has left, or that there are 64 or more.
+pub(crate) fn add_left<S: Source>(source: &mut S, said: &mut Said) {
+    match fill(source, &mut [0; 64]) {
+        Filled::Whole => said.word("more"),
+        Filled::End(count) | Filled::Failed(count) => write!(said, "left {count} "),
+    }
+}
+
 // A source of bytes, whose calls of these numbers fail, and what stands behind.
 fn source<'a>(
     alloc: Global,
     parts: &[NamedBytes],
     given: &'a str,
 ) -> Result<(MemSource, &'a str), Bad> {
-    let (numbers, rest) = parted(given)?;
-    let (bytes, sizes) = parted(rest)?;
+    let (numbers, rest) = parted(given);
+    let (bytes, sizes) = parted(rest);
     let bytes = bytes_of(alloc, parts, bytes)?;
     Ok((MemSource::new(bytes, fails(alloc, numbers)?), sizes))
 }
@@ -71,7 +90,7 @@ pub(crate) fn memory_source(parts: &[NamedBytes], given: &str, said: &mut Said) 
 
 /// The same of a source that never fails.
 pub(crate) fn plain_source(parts: &[NamedBytes], given: &str, said: &mut Said) -> Result<(), Bad> {
-    let (bytes, sizes) = parted(given)?;
+    let (bytes, sizes) = parted(given);
     let mut source = PlainSource::new(bytes_of(said.alloc(), parts, bytes)?);
     add_reads(&mut source, sizes, said)
 }
@@ -123,7 +142,7 @@ fn sink_and_pieces(
     parts: &[NamedBytes],
     given: &str,
 ) -> Result<(MemSink, Vec<Vec<u8>>), Bad> {
-    let (front, pieces) = parted(given)?;
+    let (front, pieces) = parted(given);
     Ok((sink(alloc, front)?, pieces_of(alloc, parts, pieces)?))
 }
 

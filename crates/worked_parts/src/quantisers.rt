@@ -55,7 +55,7 @@ struct Indexed {
 }
 
 fn indexed_of(alloc: Global, given: &str) -> Result<Indexed, Bad> {
-    let (index_word, numbers) = parted(given)?;
+    let (index_word, numbers) = parted(given);
     let q = index(index_word)?;
     let numbers = long_numbers(alloc, numbers)?;
     Ok(Indexed { q, numbers })
@@ -115,7 +115,7 @@ struct Bounded {
 }
 
 fn bounded_of(alloc: Global, given: &str) -> Result<Bounded, Bad> {
-    let (front, numbers) = parted(given)?;
+    let (front, numbers) = parted(given);
     let (q, greatest) = index_and_greatest(front)?;
     let cells = short_numbers(alloc, numbers)?;
     if !are_within(cells.as_slice(), greatest) {
@@ -167,7 +167,7 @@ fn magnitude(word: &str) -> Result<u64, Bad> {
 
 /// The last index at which magnitudes are quantised to numbers that have so many digits where 1 is added.
 pub(crate) fn last_indices(given: &str, said: &mut Said) -> Result<(), Bad> {
-    let (digits, magnitudes) = parted(given)?;
+    let (digits, magnitudes) = parted(given);
     let digits = natural(digits)?;
     for word in magnitudes.split_whitespace() {
         said.word(last_index(digits, magnitude(word)?)?);

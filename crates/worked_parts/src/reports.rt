@@ -100,7 +100,7 @@ fn stepped(first: u16, steps: &[i128]) -> Result<Source, Bad> {
 
 /// A report on packets of which each is so far ahead of the one before; the first number stands in front.
 pub(crate) fn track_steps(given: &str, said: &mut Said) -> Result<(), Bad> {
-    let (front, steps) = parted(given)?;
+    let (front, steps) = parted(given);
     let first = sequence(number(front)?)?;
     let steps = numbers(said.alloc(), steps)?;
     add_report(&mut stepped(first, steps.as_slice())?, said);
@@ -204,9 +204,9 @@ fn add_rr(
 
 /// A receiver report and a name, behind other bytes.
 pub(crate) fn rr_written(parts: &[NamedBytes], given: &str, said: &mut Said) -> Result<(), Bad> {
-    let (before, rest) = parted(given)?;
-    let (ssrc, rest) = parted(rest)?;
-    let (block, name) = parted(rest)?;
+    let (before, rest) = parted(given);
+    let (ssrc, rest) = parted(rest);
+    let (block, name) = parted(rest);
     let mut out = bytes_of(said.alloc(), parts, before)?;
     let name = bytes_of(said.alloc(), parts, name)?;
     add_rr(
@@ -228,8 +228,8 @@ fn add_sr(out: &mut Vec<u8>, sender: &SenderInfo, name: &[u8]) -> Result<(), Bad
 
 /// A sender report and a name, behind other bytes.
 pub(crate) fn sr_written(parts: &[NamedBytes], given: &str, said: &mut Said) -> Result<(), Bad> {
-    let (before, rest) = parted(given)?;
-    let (sender, name) = parted(rest)?;
+    let (before, rest) = parted(given);
+    let (sender, name) = parted(rest);
     let mut out = bytes_of(said.alloc(), parts, before)?;
     let name = bytes_of(said.alloc(), parts, name)?;
     add_sr(&mut out, &sender_of(said.alloc(), sender)?, name.as_slice())?;

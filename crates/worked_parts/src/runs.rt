@@ -23,8 +23,8 @@ fn slices_of(alloc: Global, parts: &[NamedBytes], given: &str) -> Result<Vec<Byt
 
 // plan : number of the first slice : bytes of each slice.
 fn job_of(alloc: Global, parts: &[NamedBytes], given: &str) -> Result<Option<RunJob>, Bad> {
-    let (plan, rest) = parted(given)?;
-    let (first, rest) = parted(rest)?;
+    let (plan, rest) = parted(given);
+    let (first, rest) = parted(rest);
     let plan = plan_of(alloc, parts, plan)?;
     let slices = slices_of(alloc, parts, rest)?;
     Ok(run_of(alloc, plan, 0, natural(first)?, slices))

@@ -30,8 +30,8 @@ struct Cut {
 
 // prefix bytes : size scaler : the bytes.
 fn cut_of(alloc: Global, parts: &[NamedBytes], given: &str) -> Result<Cut, Bad> {
-    let (prefix, rest) = parted(given)?;
-    let (scaler, bytes) = parted(rest)?;
+    let (prefix, rest) = parted(given);
+    let (scaler, bytes) = parted(rest);
     Ok(Cut {
         prefix: natural(prefix)?,
         scaler: natural(scaler)?,
@@ -113,8 +113,8 @@ fn whole(plan: Plan, index: u32, bytes: Bytes) -> Result<SliceJob, Bad>
 
 // A slice that is decoded: plan : number of the slice : its bytes.
 fn job_of(alloc: Global, parts: &[NamedBytes], given: &str) -> Result<SliceJob, Bad> {
-    let (plan, rest) = parted(given)?;
-    let (index, bytes) = parted(rest)?;
+    let (plan, rest) = parted(given);
+    let (index, bytes) = parted(rest);
     let (plan, index) = plan_and_slice(alloc, parts, plan, index)?;
     whole(plan, index, shared(bytes_of(alloc, parts, bytes)?)?)
 }
@@ -317,9 +317,9 @@ fn asked<'a>(
     parts: &[NamedBytes],
     given: &'a str,
 ) -> Result<(Widths, &'a str), Bad> {
-    let (plan, rest) = parted(given)?;
-    let (slice, rest) = parted(rest)?;
-    let (asked, coefficients) = parted(rest)?;
+    let (plan, rest) = parted(given);
+    let (slice, rest) = parted(rest);
+    let (asked, coefficients) = parted(rest);
     let wide = planned_slice_of(alloc, parts, plan, slice, coefficients)?;
     let narrow = narrowed_slice(alloc, &wide)?;
     Ok((Widths { wide, narrow }, asked))

@@ -139,8 +139,8 @@ fn add_all_kept(wire: &MemWire, said: &mut Said) {
 
 /// What an exchange over a wire in memory comes to, and what the wire keeps of it.
 pub(crate) fn memory_wire(parts: &[NamedBytes], given: &str, said: &mut Said) -> Result<(), Bad> {
-    let (front, rest) = parted(given)?;
-    let (coming, sent) = parted(rest)?;
+    let (front, rest) = parted(given);
+    let (coming, sent) = parted(rest);
     let mut wire = memory(said.alloc(), parts, front, coming)?;
     let sent = bytes_of(said.alloc(), parts, sent)?;
     exchange(&mut wire, sent.as_slice(), said)?;
@@ -150,7 +150,7 @@ pub(crate) fn memory_wire(parts: &[NamedBytes], given: &str, said: &mut Said) ->
 
 /// What an exchange over a wire that never fails comes to.
 pub(crate) fn plain_wire(parts: &[NamedBytes], given: &str, said: &mut Said) -> Result<(), Bad> {
-    let (coming, sent) = parted(given)?;
+    let (coming, sent) = parted(given);
     let mut wire = PlainWire::new(datagrams(said.alloc(), parts, coming)?);
     let sent = bytes_of(said.alloc(), parts, sent)?;
     exchange(&mut wire, sent.as_slice(), said)

@@ -41,12 +41,9 @@ pub(crate) fn range(word: &str) -> Result<(u32, u32), Bad> {
     }
 }
 
-/// What stands on either side of a colon.
-pub(crate) fn parted(text: &str) -> Result<(&str, &str), Bad> {
-    match text.split_once(':') {
-        Some((first, second)) => Ok((first, second)),
-        None => Err(Bad::NoRow),
-    }
+/// What stands on either side of a colon: nothing behind it, where there is none.
+pub(crate) fn parted(text: &str) -> (&str, &str) {
+    text.split_once(':').unwrap_or((text, ""))
 }
 
 fn add_times(numbers: &mut Vec<i128>, word: &str) -> Result<(), Bad> {

@@ -1,26 +1,53 @@
 //! Captures, and the words that they are decoded by.
 
+use link_program::link_main;
 use std::alloc::Global;
 use std::test::Fail;
-use vc_ports::{MemSink, MemWire};
-use vc_types::Words;
+use std::thread::Threads;
+use vc_ports::{MemSink, MemWire, NoPace, Source};
+use vc_slice::Hands;
+use vc_types::{NoMemory, Words};
 
 /// What the program writes to and calls.
 #[derive(Drop)]
 pub(crate) struct Outside {
     pub(crate) output: MemSink,
-    pub(crate) report: MemSink,
-    pub(crate) wire: MemWire,
+    report: MemSink,
+    wire: MemWire,
 }
 
 impl Outside {
     /// An output that has room for so many bytes, a report, and a wire that nothing comes from.
-    pub(crate) fn new(alloc: Global, room: usize) -> Result<Outside, Fail> {
+    pub(crate) fn new(alloc: Global, room: usize) -> Result<Outside, NoMemory> {
         Ok(Outside {
             output: MemSink::new(alloc, room, Vec::new(alloc))?,
             report: MemSink::new(alloc, 1000, Vec::new(alloc))?,
             wire: MemWire::new(alloc, Vec::new(alloc), false, 0, Vec::new(alloc))?,
         })
+    }
+
+    /// Does what the words ask for, and answers the status.
+    pub(crate) fn run<H: Threads + Copy + Send + Sync, S: Source, P: Hands>(
+        &mut self,
+        rt: H,
+        alloc: Global,
+        words: &Words,
+        input: &mut S,
+        hands: &mut P,
+    ) -> u8
+        requires { P.is_free hands.old }
+    {
+        link_main(
+            rt,
+            alloc,
+            words,
+            input,
+            &mut self.output,
+            &mut self.report,
+            &mut self.wire,
+            &mut NoPace,
+            hands,
+        )
     }
 }
 
@@ -39,7 +66,7 @@ pub(crate) fn capture(alloc: Global, payloads: &[&[u8]]) -> Result<Vec<u8>, Fail
 }
 
 /// Words that spaces part.
-pub(crate) fn words_of(alloc: Global, line: &str) -> Result<Words, Fail> {
+pub(crate) fn words_of(alloc: Global, line: &str) -> Result<Words, NoMemory> {
     let mut words = Words::new(alloc);
     for word in line.split_whitespace() {
         words.push(word)?;

@@ -1,7 +1,9 @@
 //! Runs of slices to be decoded.
 
 use bytes::Bytes;
+use link_slices::same_job;
 use std::alloc::Global;
+use std::test::Fail;
 use vc_slice::{RunAnswer, RunDone, RunJob, RunLoad, SliceJob};
 use vc_types::{Component, NoMemory};
 use worked_common::{THREE_SLICES, TWO_SLICES, job_of};
@@ -63,4 +65,17 @@ pub(crate) fn is_edged_run(done: &RunDone) -> bool {
         }
         RunAnswer::Apart(_) => false,
     }
+}
+
+// Whether a slice is another job with one of its four bytes changed.
+fn are_told_apart() -> Result<bool, NoMemory> {
+    let zeros = empty_slice(7)?;
+    let other = job_of(TWO_SLICES, 7, 0, Bytes::from_static(&[1, 0, 0, 0])).ok_or(NoMemory)?;
+    Ok(same_job(&zeros, &zeros) && !same_job(&zeros, &other))
+}
+
+#[test]
+fn jobs_of_other_bytes_are_told_apart(rt: HostRuntime) -> Result<(), Fail> {
+    assert!(rt; are_told_apart()?);
+    Ok(())
 }

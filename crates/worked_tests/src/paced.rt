@@ -1,13 +1,12 @@
 //! A capture whose slices come only as workers take them, one of which is held up.
 
 use crate::captures::{Outside, capture, words_of};
-use link_program::link_main;
 use slice_pool::{Crew, Worker};
 use std::alloc::Global;
 use std::sync::Arc;
 use std::test::Fail;
 use std::thread::Threads;
-use vc_ports::{Got, NoPace, PlainSource, Source};
+use vc_ports::{Got, PlainSource, Source};
 use vc_slice::Hands;
 use worked_common::{Doorkeeper, HEADER_PAYLOAD, slice_payload};
 
@@ -76,17 +75,7 @@ fn is_frame_written<H: Threads + Copy + Send + Sync, P: Hands>(
         in_time: false,
     };
     let mut outside = Outside::new(alloc, 96)?;
-    let status = link_main(
-        rt,
-        alloc,
-        &words,
-        &mut input,
-        &mut outside.output,
-        &mut outside.report,
-        &mut outside.wire,
-        &mut NoPace,
-        hands,
-    );
+    let status = outside.run(rt, alloc, &words, &mut input, hands);
     Ok(status == 0 && input.in_time && outside.output.bytes() == [0x80; 96].as_slice())
 }
 

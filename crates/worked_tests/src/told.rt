@@ -1,11 +1,10 @@
 //! Hands that tell what they are asked, and decode nothing.
 
 use crate::captures::{Outside, capture, words_of};
-use link_program::link_main;
 use std::alloc::Global;
 use std::test::Fail;
 use std::thread::Threads;
-use vc_ports::{MemSink, MemSource, NoPace};
+use vc_ports::{MemSink, PlainSource};
 use worked_common::{HEADER_PAYLOAD, Recorder, params_payload, slice_payload};
 
 // The number of picture 0.
@@ -40,19 +39,9 @@ fn run<H: Threads + Copy + Send + Sync>(
     hands: &mut Recorder,
 ) -> Result<(u8, MemSink), Fail> {
     let words = words_of(alloc, words)?;
-    let mut input = MemSource::new(input, Vec::new(alloc));
+    let mut input = PlainSource::new(input);
     let mut outside = Outside::new(alloc, 192)?;
-    let status = link_main(
-        rt,
-        alloc,
-        &words,
-        &mut input,
-        &mut outside.output,
-        &mut outside.report,
-        &mut outside.wire,
-        &mut NoPace,
-        hands,
-    );
+    let status = outside.run(rt, alloc, &words, &mut input, hands);
     Ok((status, outside.output))
 }
 
@@ -83,6 +72,7 @@ fn each_slice_is_offered_as_it_comes_and_its_place_freed(rt: HostRuntime) -> Res
     assert!(rt; hands.was_offered(&offered));
     assert_eq!(rt; hands.started(), [3].as_slice());
     assert_eq!(rt; hands.freed(), [0, 1, 2, 3, 4].as_slice());
+    assert!(rt; !hands.asked_freed());
     Ok(())
 }
 
