@@ -26,6 +26,13 @@ impl<'a, 'b, 'c, 'd, 'e, N: Wire, H: Threads + Copy, O: Sink, P: Places> Outlet
     ghost is_ready = { λ x.
         IsReady (loop_state N.told N.faults O.held O.faults P.told P.bound x) };
 
+    ghost is_open = { λ x.
+        IsReady (loop_state N.told N.faults O.held O.faults P.told P.bound x) };
+
+    ghost took = { λ x y datagrams. LoopsAs x y
+        × WereLooped (loop_state N.told N.faults O.held O.faults P.told P.bound x)
+        (loop_state N.told N.faults O.held O.faults P.told P.bound y) datagrams };
+
     ghost carried = { λ x y datagrams. LoopsAs x y
         × WereLooped (loop_state N.told N.faults O.held O.faults P.told P.bound x)
         (loop_state N.told N.faults O.held O.faults P.told P.bound y) datagrams };
@@ -51,6 +58,13 @@ impl<'a, 'b, 'c, 'd, 'e, N: Wire, H: Threads + Copy, O: Sink, P: Places> Outlet
             Err(_) => Err(OutletFault::NoMemory),
         }
     }
+
+    // Each datagram went out as it was taken.
+    fn flush(&mut self) -> Result<(), OutletFault> {
+        Ok(())
+    }
+
+    ghost opens = { λ x ready. (ready, ((refl, (refl, refl)), none_looped _)) };
 
     ghost none = { λ x. ((refl, (refl, refl)), none_looped _) };
 

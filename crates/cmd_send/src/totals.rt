@@ -29,7 +29,8 @@ impl Totals {
         }
     }
 
-    /// Puts a frame's datagrams, each at its turn, and counts them. The next frame has that timestamp.
+    /// Puts a frame's datagrams, each at its turn, counts them, and lets all go out. The next frame has that
+    /// timestamp.
     pub(crate) fn put_all<O: Outlet, P: Pace>(
         &mut self,
         datagrams: &[Datagram],
@@ -58,6 +59,6 @@ impl Totals {
                 Err(fault) => return Err(fault),
             }
         }
-        Ok(())
+        outlet.flush()
     }
 }

@@ -2,3 +2,4 @@ pub mod Heads
 pub mod Entries
 pub mod EntrySteps
 pub mod Puts
+mod Buffered

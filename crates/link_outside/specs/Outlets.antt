@@ -1,5 +1,5 @@
 -- What datagrams that went out did to a capture's sink, and to a wire.
-use Rattle.std.specs.Prelude.{◌≡◌, ◌≤◌, ℕ, List, [], length, take}
+use Rattle.std.specs.Prelude.{◌≡◌, ◌≤◌, ℕ, List, [], ◌++◌, length, take}
 use Rattle.std.specs.List.{flat_map}
 use Rattle.link_outside.specs.declared.outlet.OutletFault.{OutletFault}
 use Rattle.link_outside.specs.declared.outlet.OutletFault.TheVariants.{Output, Wire}
@@ -15,6 +15,14 @@ capture_of datagrams = flat_map entry datagrams
 pub record WroteEntries (output : OutputChange) (datagrams : List (List ℕ)) : Type 0 where
   pub wrote : Wrote output (capture_of datagrams)
   pub later : output.faults.before ≤ output.faults.after
+
+-- their entries were written, but for what is kept of them
+pub record KeptEntries (output : OutputChange) (kept : List ℕ) (datagrams : List (List ℕ)) : Type 0
+  where
+    pub gone : List ℕ
+    pub wrote : Wrote output gone
+    pub all : capture_of datagrams ≡ gone ++ kept
+    pub later : output.faults.before ≤ output.faults.after
 
 -- a write failed, and a prefix of them went out
 pub record WrotePartOfEntries

@@ -10,12 +10,19 @@ pub enum OutletFault {
     Wire,
 }
 
-/// Where datagrams go one after another.
+/// Where datagrams go one after another. It may keep datagrams that it took, to let them go out together.
 pub trait Outlet {
     ghost use Rattle.link_outside.specs.declared.outlet.OutletFault.{OutletFault};
 
-    /// It can take a datagram.
+    /// It can take datagrams, and keeps none.
     ghost is_ready: { Self → Type 0 };
+
+    /// It can take a datagram, and may keep others.
+    ghost is_open: { Self → Type 0 };
+
+    /// These datagrams were taken since it was ready: they went out, one after another, but for those that
+    /// are kept.
+    ghost took: { Self → Self → List (List ℕ) → Type 0 };
 
     /// These datagrams went out, one after another.
     ghost carried: { Self → Self → List (List ℕ) → Type 0 };
@@ -25,11 +32,26 @@ pub trait Outlet {
 
     /// Takes a datagram.
     fn put(&mut self, datagram: &[u8]) -> Result<(), OutletFault>
-        requires ready { is_ready self.old }
+        requires opened { is_open self.old }
         requires size { length datagram.now ≤ 65507 }
+        ensures opened { OnOk result (is_open self.new) }
+        ensures took { OnOk result ((first : Self) (before : List (List ℕ))
+            → took first self.old before → took first self.new (before ++ datagram.now ∷ [])) }
+        ensures broke { IfErr result (λ fault. (first : Self) (before : List (List ℕ))
+            → took first self.old before
+            → broke first self.new (before ++ datagram.now ∷ []) fault) };
+
+    /// Lets all go out that was taken.
+    fn flush(&mut self) -> Result<(), OutletFault>
+        requires opened { is_open self.old }
         ensures ready { OnOk result (is_ready self.new) }
-        ensures carried { OnOk result (carried self.old self.new (datagram.now ∷ [])) }
-        ensures broke { IfErr result (λ fault. broke self.old self.new (datagram.now ∷ []) fault) };
+        ensures carried { OnOk result ((first : Self) (datagrams : List (List ℕ))
+            → took first self.old datagrams → carried first self.new datagrams) }
+        ensures broke { IfErr result (λ fault. (first : Self) (datagrams : List (List ℕ))
+            → took first self.old datagrams → broke first self.new datagrams fault) };
+
+    // Where it is ready, it is open, and nothing was taken.
+    ghost opens: { (x : Self) → is_ready x → is_open x × took x x [] };
 
     // Nothing went out where it is as it was.
     ghost none: { (x : Self) → carried x x [] };

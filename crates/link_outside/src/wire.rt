@@ -26,6 +26,11 @@ impl<'a, N: Wire> WireOutlet<'a, N> {
 impl<'a, N: Wire> Outlet for WireOutlet<'a, N> {
     ghost is_ready = { λ x. IsTrue (N.told x.wire.now).aimed };
 
+    ghost is_open = { λ x. IsTrue (N.told x.wire.now).aimed };
+
+    ghost took = { λ x y datagrams. (y.wire.ghost_name ≡ x.wire.ghost_name)
+        × SentAll (wire_of N.told N.faults x.wire.now y.wire.now) datagrams };
+
     ghost carried = { λ x y datagrams. (y.wire.ghost_name ≡ x.wire.ghost_name)
         × SentAll (wire_of N.told N.faults x.wire.now y.wire.now) datagrams };
 
@@ -38,6 +43,13 @@ impl<'a, N: Wire> Outlet for WireOutlet<'a, N> {
             Reached::Failed => Err(OutletFault::Wire),
         }
     }
+
+    // Each datagram went out as it was taken.
+    fn flush(&mut self) -> Result<(), OutletFault> {
+        Ok(())
+    }
+
+    ghost opens = { λ x ready. (ready, (refl, none_sent _ _)) };
 
     ghost none = { λ x. (refl, none_sent _ _) };
 

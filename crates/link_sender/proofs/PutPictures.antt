@@ -24,18 +24,13 @@ use Rattle.link_sender.proofs.Numbered.{appends_more}
 use Rattle.link_sender.proofs.SentBytes.{datagrams_count}
 use Rattle.picture_encode.specs.IndexedSlices.{IndexedSlice}
 use Rattle.picture_encode.specs.Encoded.{IsSized, bytes_of_slices}
+use Rattle.picture_encode.proofs.CodedRuns.{joined_more}
 use Rattle.vc_types.specs.Bits.{digit_of}
 use Rattle.vc_types.specs.Limits.{slices_fit}
 use Rattle.vc_types.specs.Subbands.{slice_count}
 use Rattle.vc_types.specs.TransformParameters.{Parameters}
 
 -- ---- runs of slices
-
--- ---- runs
-
-pub joined_more : (parts : List (List ℕ)) (part : List ℕ) → joined (parts ++ part ∷ []) ≡ joined parts ++ part
-joined_more [] part = append-nil part
-joined_more (first ∷ parts) part = ap (λ l. first ++ l) (joined_more parts part) ∙ sym (append_assoc first (joined parts) part)
 
 module _ (room : ℕ) (run : SliceRun) (slice : List ℕ) (slices : List (List ℕ)) where
   pub taken : length (joined run.slices) + length slice ≤ room → runs_from room run (slice ∷ slices) ≡ runs_from room (run_with run slice) slices

@@ -8,6 +8,7 @@ ghost use Rattle.vc_types.specs.SenderSettings.{Sending};
 ghost use Rattle.vc_types.specs.TransformParameters.{parameters_of};
 
 use crate::refusal::SendRefusal;
+use std::thread::{Threads, join};
 use vc_types::{Plan, Plane};
 
 /// Refuses the first sample of a frame, in raw order, that has more bits than the plan's samples of
@@ -28,6 +29,32 @@ pub(crate) fn check_samples(plan: &Plan, frame: &[Plane; 3]) -> Result<(), SendR
     )
 }
 
+/// The same; with two workers or more luma is tested beside the colours, by join.
+pub(crate) fn check_samples_joined<H: Threads>(
+    rt: &H,
+    workers: u32,
+    plan: &Plan,
+    frame: &[Plane; 3],
+) -> Result<(), SendRefusal>
+    ensures sound { OnOk result ((s : Sending) → sent_parameters s ≡ parameters_of plan.now
+        → first_sample_fault s (planes_in frame.now) ≡ None) }
+    ensures refused { IfErr result (λ e. (s : Sending)
+        → sent_parameters s ≡ parameters_of plan.now
+        → SaysFault (first_sample_fault s (planes_in frame.now)) e) }
+{
+    if workers < 2 {
+        return check_samples(plan, frame);
+    }
+    let shape = &plan.shape;
+    check_planes_joined(
+        rt,
+        (shape.luma_depth, shape.colour_depth),
+        &frame[0],
+        &frame[1],
+        &frame[2],
+    )
+}
+
 // The same of three planes, by the bits of luma and of colour samples.
 #[tactic(auto, using(crate::proofs::SampleFaults::says_first, crate::proofs::SampleFaults::says_rest, crate::proofs::SampleFaults::none_rest))]
 fn check_planes(depths: (u8, u8), y: &Plane, c1: &Plane, c2: &Plane) -> Result<(), SendRefusal>
@@ -38,8 +65,43 @@ fn check_planes(depths: (u8, u8), y: &Plane, c1: &Plane, c2: &Plane) -> Result<(
         (option_or (plane_fault depths.1 1 c1.now) (plane_fault depths.1 2 c2.now))) e) }
 {
     check_plane(0, y, depths.0)?;
-    check_plane(1, c1, depths.1)?;
-    check_plane(2, c2, depths.1)
+    check_colours(depths.1, c1, c2)
+}
+
+#[tactic(auto, using(crate::proofs::SampleFaults::says_first, crate::proofs::SampleFaults::says_rest, crate::proofs::SampleFaults::none_rest))]
+fn check_planes_joined<H: Threads>(
+    rt: &H,
+    depths: (u8, u8),
+    y: &Plane,
+    c1: &Plane,
+    c2: &Plane,
+) -> Result<(), SendRefusal>
+    requires { (depths.0 ≤ 16) × (depths.1 ≤ 16) }
+    ensures sound { OnOk result (option_or (plane_fault depths.0 0 y.now)
+        (option_or (plane_fault depths.1 1 c1.now) (plane_fault depths.1 2 c2.now)) ≡ None) }
+    ensures refused { IfErr result (λ e. SaysFault (option_or (plane_fault depths.0 0 y.now)
+        (option_or (plane_fault depths.1 1 c1.now) (plane_fault depths.1 2 c2.now))) e) }
+{
+    let (luma, colours) = join(
+        rt,
+        || check_plane(0, y, depths.0),
+        || check_colours(depths.1, c1, c2),
+    );
+    luma?;
+    colours
+}
+
+// The same of the colour planes, by the bits of their samples.
+#[tactic(auto, using(crate::proofs::SampleFaults::says_first, crate::proofs::SampleFaults::says_rest, crate::proofs::SampleFaults::none_rest))]
+fn check_colours(depth: u8, c1: &Plane, c2: &Plane) -> Result<(), SendRefusal>
+    requires { depth ≤ 16 }
+    ensures sound { OnOk result
+        (option_or (plane_fault depth 1 c1.now) (plane_fault depth 2 c2.now) ≡ None) }
+    ensures refused { IfErr result (λ e.
+        SaysFault (option_or (plane_fault depth 1 c1.now) (plane_fault depth 2 c2.now)) e) }
+{
+    check_plane(1, c1, depth)?;
+    check_plane(2, c2, depth)
 }
 
 fn check_plane(number: u8, plane: &Plane, depth: u8) -> Result<(), SendRefusal>

@@ -20,7 +20,7 @@ use crate::outbox::Outbox;
 use crate::picture::Picture;
 use crate::place::{PicturePlace, picture_number, timestamp};
 use crate::refusal::SendRefusal;
-use crate::samples::check_samples;
+use crate::samples::{check_samples, check_samples_joined};
 use crate::sender::Sender;
 use crate::writing::write_end;
 use picture_encode::{Chooser, EncodedRun, PictureGrids, header_of, plan_of};
@@ -209,7 +209,8 @@ impl<F: Fn(&SliceNeed) -> u8> Sender<F> {
 
 impl<F: Fn(&SliceNeed) -> u8 + Sync> Sender<F> {
     /// The same as `send_frame`, by so many threads, at most 64: each encodes a part of a picture's
-    /// slices, and luma is transformed beside the colours. Fewer than two threads do all in turn.
+    /// slices, and luma is tested and transformed beside the colours. Fewer than two threads do all in
+    /// turn.
     pub fn send_frame_joined<H: Threads + Copy + Send + Sync>(
         &mut self,
         rt: H,
@@ -225,7 +226,7 @@ impl<F: Fn(&SliceNeed) -> u8 + Sync> Sender<F> {
             self.old.chooser.wants_lens (sending_view self.old.settings) (planes_in frame.now)
             (numbers_of self.old) (numbers_of self.new) result }
     {
-        check_samples(&self.plan, frame)?;
+        check_samples_joined(&rt, workers, &self.plan, frame)?;
         let coded = encode_frame_joined(
             rt,
             workers,

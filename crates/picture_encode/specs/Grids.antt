@@ -9,11 +9,11 @@ use Rattle.vc_types.specs.declared.rect.Rect.{Rect}
 use Rattle.vc_types.specs.declared.video.Component.{Component}
 use Rattle.vc_types.specs.declared.video.Component.TheVariants.{Y, C1, C2}
 use Rattle.vc_types.specs.Planes.{Planes}
-use Rattle.vc_types.specs.Rasters.{Lattice, cell_at}
+use Rattle.vc_types.specs.Rasters.{Lattice, Raster, cell_at, sample_at}
 use Rattle.vc_types.specs.Slices.{Coefficients}
 use Rattle.vc_types.specs.Subbands.{area, place_in, padded_width, padded_height}
 use Rattle.vc_types.specs.TransformParameters.{Parameters}
-use Rattle.vc_types.specs.Transforms.{Cells}
+use Rattle.vc_types.specs.Transforms.{Cells, forward_transform}
 use Rattle.vc_wave.specs.Layout.{nested_in}
 
 -- cells of the padded size of a component that has no levels across alone
@@ -21,6 +21,13 @@ pub record IsNarrowGrid (p : Parameters) (c : Component) (cells : List ℤ) : Ty
   pub none_across : p.depth_ho ≡ 0
   pub size : length cells ≡ padded_height p c * padded_width p c
   pub small : All (λ z. unsigned_abs z < 2 ^ 60) cells
+
+-- cells that have the coefficients of a component's plane
+pub record AreNarrowCells (p : Parameters) (c : Component) (plane : Raster) (cells : List ℤ)
+    : Type 0 where
+  pub grid : IsNarrowGrid p c cells
+  pub value : (x y : ℕ) → x < padded_width p c → y < padded_height p c
+      → nested_in p c (padded_width p c) cells x y ≡ forward_transform p c (sample_at plane) x y
 
 -- a grid of the padded size of a component
 pub record IsWideGrid (p : Parameters) (c : Component) (g : Lattice) : Type 0 where

@@ -14,11 +14,11 @@ indexed_slice e = record { index = e.index; bytes = e.bytes.items }
 -- ---- a run
 
 -- the slices that end in these places of a run's bytes, of which the first begins in a place
-abbrev pub slices_from : ℕ → List SliceEnd → List ℕ → List IndexedSlice
-slices_from start [] bytes = []
-slices_from start (e ∷ ends) bytes =
+abbrev pub run_slices_from : ℕ → List SliceEnd → List ℕ → List IndexedSlice
+run_slices_from start [] bytes = []
+run_slices_from start (e ∷ ends) bytes =
     record { index = e.index; bytes = take (e.end - start) (drop start bytes) }
-    ∷ slices_from e.end ends bytes
+    ∷ run_slices_from e.end ends bytes
 
 -- the places follow one another, up to the last, where so many bytes end
 abbrev pub AreEnds : ℕ → List SliceEnd → ℕ → Type 0
@@ -26,7 +26,7 @@ AreEnds start [] len = start ≡ len
 AreEnds start (e ∷ ends) len = (start ≤ e.end) × AreEnds e.end ends len
 
 -- where the slice with a number begins, the first being in a place
-abbrev pub slice_start : ℕ → List SliceEnd → ℕ → ℕ
-slice_start start ends zero = start
-slice_start start [] (suc i) = start
-slice_start start (e ∷ ends) (suc i) = slice_start e.end ends i
+abbrev pub start_in_run : ℕ → List SliceEnd → ℕ → ℕ
+start_in_run start ends zero = start
+start_in_run start [] (suc i) = start
+start_in_run start (e ∷ ends) (suc i) = start_in_run e.end ends i

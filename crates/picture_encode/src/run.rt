@@ -1,5 +1,5 @@
 ghost use Rattle.std.specs.Prelude.{◌≡◌, ◌<◌, ◌≤◌, [], ◌∷◌, ◌++◌, IfOk, OnOk, OnErr, length, slice_index_or};
-ghost use Rattle.picture_encode.specs.IndexedSlices.{indexed_slice, slice_start};
+ghost use Rattle.picture_encode.specs.IndexedSlices.{indexed_slice, start_in_run};
 ghost use Rattle.picture_encode.specs.Encoded.{bytes_of_slices};
 
 use crate::slices::EncodedSlice;
@@ -24,11 +24,11 @@ pub struct EncodedRun {
 
 impl Model for EncodedRun {
     ghost use Rattle.std.specs.Prelude.{List, length};
-    ghost use Rattle.picture_encode.specs.IndexedSlices.{AreEnds, IndexedSlice, slices_from};
+    ghost use Rattle.picture_encode.specs.IndexedSlices.{AreEnds, IndexedSlice, run_slices_from};
 
     ghost Value = { List IndexedSlice };
 
-    ghost view = { λ run. slices_from 0 run.ends.items run.bytes.items };
+    ghost view = { λ run. run_slices_from 0 run.ends.items run.bytes.items };
 
     ghost invariant = { λ run. AreEnds 0 run.ends.items (length run.bytes.items) };
 }
@@ -86,7 +86,7 @@ impl EncodedRun {
 // Where the slice with a number begins among the bytes of a run.
 fn start_of(ends: &[SliceEnd], number: usize) -> usize
     requires { number ≤ length ends.now }
-    ensures { result ≡ slice_start 0 ends.now number }
+    ensures { result ≡ start_in_run 0 ends.now number }
 {
     if number == 0 { 0 } else { ends[number - 1].end }
 }

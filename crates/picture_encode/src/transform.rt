@@ -1,15 +1,10 @@
-ghost use Rattle.std.specs.Prelude.{◌≡◌, ◌-◌, ◌^◌, ◌<◌, ℕ, All, IfOk, IsTrue, length, unsigned_abs};
+ghost use Rattle.std.specs.Prelude.{◌≡◌, ◌^◌, ◌<◌, All, IfOk, length, unsigned_abs};
 ghost use Rattle.link_model.specs.SendingPictures.{plane_in};
-ghost use Rattle.picture_encode.specs.Grids.{IsNarrowGrid, HasCoefficients, HaveCoefficients};
-ghost use Rattle.picture_encode.specs.Shapes.{IsPlane, CanBeTransformed};
+ghost use Rattle.picture_encode.specs.Grids.{AreNarrowCells, HasCoefficients, HaveCoefficients};
+ghost use Rattle.picture_encode.specs.Shapes.{CanBeTransformed, FitsNarrow};
 ghost use Rattle.vc_types.specs.declared.video.Component.TheVariants.{C1, C2};
 ghost use Rattle.vc_types.specs.Planes.{planes_in};
-ghost use Rattle.vc_types.specs.Rasters.{sample_at};
-ghost use Rattle.vc_types.specs.Subbands.{plane_depth, padded_width, padded_height};
-ghost use Rattle.vc_types.specs.TransformParameters.{is_symmetric, parameters_of};
-ghost use Rattle.vc_types.specs.Transforms.{forward_transform};
-ghost use Rattle.vc_wave.specs.ForwardBounds.{forward_fits_narrow};
-ghost use Rattle.vc_wave.specs.Layout.{nested_in};
+ghost use Rattle.vc_types.specs.TransformParameters.{parameters_of};
 
 use crate::grids::{ComponentGrid, PictureGrids};
 use std::alloc::Global;
@@ -153,16 +148,9 @@ fn narrow(
     plane: &Plane,
     used: ComponentGrid,
 ) -> Result<Vec<i32>, NoMemory>
-    requires symmetric { IsTrue (is_symmetric (parameters_of plan.now)) }
-    requires plane { IsPlane (parameters_of plan.now) c plane.now }
-    requires narrow { IsTrue (forward_fits_narrow (parameters_of plan.now)
-        (2 ^ (plane_depth plan.now.shape c - 1))) }
-    ensures grid { IfOk result (λ cells. IsNarrowGrid (parameters_of plan.now) c cells.items) }
-    ensures value { IfOk result (λ cells. (x y : ℕ) → x < padded_width (parameters_of plan.now) c
-        → y < padded_height (parameters_of plan.now) c
-        → nested_in (parameters_of plan.now) c (padded_width (parameters_of plan.now) c)
-        cells.items x y
-        ≡ forward_transform (parameters_of plan.now) c (sample_at plane.now) x y) }
+    requires { FitsNarrow (parameters_of plan.now) c plane.now }
+    ensures { IfOk result
+        (λ cells. AreNarrowCells (parameters_of plan.now) c plane.now cells.items) }
 {
     let (width, height) = padded(plan, c);
     let mut room = vec![in alloc; 0i32; forward_room_len(plan, c)]?;
@@ -181,16 +169,9 @@ fn narrow_joined<H: Threads>(
     plane: &Plane,
     used: ComponentGrid,
 ) -> Result<Vec<i32>, NoMemory>
-    requires symmetric { IsTrue (is_symmetric (parameters_of plan.now)) }
-    requires plane { IsPlane (parameters_of plan.now) c plane.now }
-    requires narrow { IsTrue (forward_fits_narrow (parameters_of plan.now)
-        (2 ^ (plane_depth plan.now.shape c - 1))) }
-    ensures grid { IfOk result (λ cells. IsNarrowGrid (parameters_of plan.now) c cells.items) }
-    ensures value { IfOk result (λ cells. (x y : ℕ) → x < padded_width (parameters_of plan.now) c
-        → y < padded_height (parameters_of plan.now) c
-        → nested_in (parameters_of plan.now) c (padded_width (parameters_of plan.now) c)
-        cells.items x y
-        ≡ forward_transform (parameters_of plan.now) c (sample_at plane.now) x y) }
+    requires { FitsNarrow (parameters_of plan.now) c plane.now }
+    ensures { IfOk result
+        (λ cells. AreNarrowCells (parameters_of plan.now) c plane.now cells.items) }
 {
     let (width, height) = padded(plan, c);
     let mut room = vec![in alloc; 0i32; joined_forward_room_len(plan, c)]?;

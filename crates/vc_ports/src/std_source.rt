@@ -7,7 +7,7 @@ use crate::source::{Got, Source};
 use std::io::Read;
 
 // How many bytes one read takes at most.
-const PIECE: usize = 8192;
+const PIECE: usize = 65_536;
 
 /// Any reader of std. It tells nothing.
 #[derive(Drop)]

@@ -54,4 +54,11 @@ impl Plane {
     {
         &self.samples
     }
+
+    /// The samples, row by row; their memory can serve another plane.
+    pub fn into_samples(self) -> Vec<u16>
+        ensures { result.items ≡ self.samples }
+    {
+        self.samples
+    }
 }

@@ -1,36 +1,13 @@
-use Rattle.std.proofs.Common.{◌≡◌, ◌*◌, ◌^◌, ◌<◌, List, ℤ, All, length, take, drop, ◌++◌, unsigned_abs, arith, ap, subst, ◌∙◌}
-use Rattle.vc_types.specs.Subbands.{padded_width, padded_height}
+use Rattle.std.proofs.Common.{◌≡◌, ◌*◌, ◌^◌, ◌<◌, List, ℤ, All, length, drop, unsigned_abs, arith, subst}
 use Rattle.vc_types.specs.TransformParameters.{parameters_of}
-use Rattle.vc_wave.specs.Layout.{nested_in}
 use Rattle.vc_wave.proofs.Grids.{written_over}
-use Rattle.vc_wave.proofs.TransformLaws.{no_levels}
+use Rattle.picture_encode.proofs.Transformed.{are_narrow}
 use Rattle.picture_encode.proofs.transform.narrow.Goals as goal
 
--- the cells that were written are all of them
-written : (c : goal.After-drop-room-2)
-    → take c.in_ok-cells.cells.len (c.forward_narrow.new.cells ++ drop (length c.forward_narrow.new.cells) c.in_ok-cells.cells.items)
-    ≡ c.forward_narrow.new.cells
-written c =
+pub returns : goal.returns
+returns c =
     let cells = c.forward_narrow.new.cells in
-    written_over c.in_ok-cells.cells.len cells (drop (length cells) c.in_ok-cells.cells.items) (omega arith)
-
-pub returns-clause-grid : goal.returns-clause-grid
-returns-clause-grid c =
-    let p = parameters_of c.args.plan.now in
-    let cells = c.forward_narrow.new.cells in
-    let same = written c in
     let whole : length cells ≡ c.padded-width.result.1 * c.padded-width.result.0 = omega (arith, c.in_ok-cells.ensures) in
-    record {
-      none_across = no_levels p c.requires.symmetric;
-      size =
-          ap length same ∙ whole
-          ∙ ap (λ n. n * c.padded-width.result.0) c.padded-width.ensures.height
-          ∙ ap (λ n. padded_height p c.args.c * n) c.padded-width.ensures.width;
-      small = subst (λ (zs : List ℤ). All (λ z. unsigned_abs z < 2 ^ 60) zs) c.deref.ensures.value c.are_small.ensures;
-    }
-
-pub returns-clause-value : goal.returns-clause-value
-returns-clause-value c = λ x y a b.
-    let p = parameters_of c.args.plan.now in
-    ap (λ (zs : List ℤ). nested_in p c.args.c (padded_width p c.args.c) zs x y) (written c)
-    ∙ c.forward_narrow.ensures x y a b
+    let all = written_over c.in_ok-cells.cells.len cells (drop (length cells) c.in_ok-cells.cells.items) (omega arith) in
+    let small = subst (λ (zs : List ℤ). All (λ z. unsigned_abs z < 2 ^ 60) zs) c.deref.ensures.value c.are_small.ensures in
+    are_narrow (parameters_of c.args.plan.now) c.args.c c.args.plane.now _ _ cells _ c.requires.symmetric c.padded-width.ensures.width c.padded-width.ensures.height whole all small c.forward_narrow.ensures

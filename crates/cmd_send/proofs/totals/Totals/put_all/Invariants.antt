@@ -5,7 +5,7 @@ use Rattle.cmd_send.proofs.totals.Totals.put_all.Given as goal
 
 abbrev pub invariant-loop-datagram : goal.invariant-loop-datagram
 invariant-loop-datagram g l = record {
-  carried : g.O.Outlet.carried l.fn.outlet l.outlet (bytes_of_all (take l.datagram-index l.datagrams));
+  took : g.O.Outlet.took l.fn.outlet l.outlet (bytes_of_all (take l.datagram-index l.datagrams));
   totals : l.self ≡ totals_with l.fn.self (bytes_of_all (take l.datagram-index l.datagrams));
-  ready : g.O.Outlet.is_ready l.outlet;
+  opened : g.O.Outlet.is_open l.outlet;
 }

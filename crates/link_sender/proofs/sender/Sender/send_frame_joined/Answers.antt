@@ -8,12 +8,12 @@ use Rattle.link_sender.specs.State.{numbers_of}
 use Rattle.link_sender.proofs.Frames.{are_pictures, is_sent, none_for_frame, samples_refuse, slices_refuse}
 use Rattle.link_sender.proofs.sender.Sender.send_frame_joined.Goals as goal
 
-pub returns-in_err-check_samples-clause-value : goal.returns-in_err-check_samples-clause-value
-returns-in_err-check_samples-clause-value g c = grind (arith, common_steps, samples_refuse)
+pub returns-in_err-check_samples_joined-clause-value : goal.returns-in_err-check_samples_joined-clause-value
+returns-in_err-check_samples_joined-clause-value g c = grind (arith, common_steps, samples_refuse)
 
 pub encode_frame_joined-requires-clause-samples : goal.encode_frame_joined-requires-clause-samples
 encode_frame_joined-requires-clause-samples g c =
-    let sound = c.in_ok-check_samples.ensures.sound (sending_view c.args.self.now.settings) (sym c.args.self.now.plan_is) in
+    let sound = c.in_ok-check_samples_joined.ensures.sound (sending_view c.args.self.now.settings) (sym c.args.self.now.plan_is) in
     search rules
 
 pub returns-in_err-coded-clause-value : goal.returns-in_err-coded-clause-value
@@ -38,4 +38,4 @@ returns-clause-value g c =
     let sender = c.args.self.now in
     let s = sending_view sender.settings in
     is_sent (Answers g.F.Fn s sender.chooser) sender.chooser.wants_lens s (planes_in c.args.frame.now) c.in_ok-coded.coded c.in_ok-coded.ensures
-    (numbers_of sender) (numbers_of c.put_frame.new.self) c.in_ok-put_frame.field-0.items (c.in_ok-check_samples.ensures.sound s (sym sender.plan_is)) c.in_ok-put_frame.ensures.datagrams c.in_ok-put_frame.ensures.numbers
+    (numbers_of sender) (numbers_of c.put_frame.new.self) c.in_ok-put_frame.field-0.items (c.in_ok-check_samples_joined.ensures.sound s (sym sender.plan_is)) c.in_ok-put_frame.ensures.datagrams c.in_ok-put_frame.ensures.numbers

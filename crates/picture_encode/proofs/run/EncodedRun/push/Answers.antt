@@ -1,6 +1,6 @@
 use Rattle.std.proofs.Common.{◌≡◌, ◌+◌, List, [], ◌∷◌, ◌++◌, ℕ, length, rules, sym, subst, ap, ◌∙◌}
 use Rattle.std.proofs.lemmas.List.{length-append}
-use Rattle.picture_encode.specs.IndexedSlices.{AreEnds, slices_from}
+use Rattle.picture_encode.specs.IndexedSlices.{AreEnds, run_slices_from}
 use Rattle.picture_encode.specs.declared.run.SliceEnd.{SliceEnd}
 use Rattle.picture_encode.proofs.CodedRuns.{ends_more, slices_more}
 use Rattle.picture_encode.proofs.run.EncodedRun.push.Goals as goal
@@ -26,6 +26,6 @@ returns-in-Ok-clause-ok c =
     let long = ap length grown ∙ length-append bytes more in
     let end : c.len.result ≡ length c.extend_from_slice.new.self.items = search rules in
     let ends = c.in-Ok.ensures.items in
-    (λ i. slices_from 0 (ends i) (grown i))
+    (λ i. run_slices_from 0 (ends i) (grown i))
     ∙ slices_more 0 run.ends.items bytes more e c.self.invariant (end ∙ long)
     ∙ (λ i. c.self.view_is i ++ record { index = e.index; bytes = c.deref.ensures.value i } ∷ [])

@@ -1,5 +1,5 @@
 use Rattle.std.proofs.Common.{◌-◌, List, [], drop, get_or, length, take, sym, ap, ◌∙◌, arith}
-use Rattle.picture_encode.specs.IndexedSlices.{IndexedSlice, slice_start}
+use Rattle.picture_encode.specs.IndexedSlices.{IndexedSlice, start_in_run}
 use Rattle.picture_encode.specs.Encoded.{bytes_of_slices}
 use Rattle.picture_encode.specs.declared.run.SliceEnd.{SliceEnd}
 use Rattle.picture_encode.proofs.CodedRuns.{how_many, slice_is, slice_within}
@@ -24,7 +24,7 @@ slice_bounds-result-count c =
     let many = ap length (sym c.self.view_is) ∙ how_many 0 run.ends.items run.bytes.items in
     let within = slice_within 0 run.ends.items (length run.bytes.items) c.args.number c.index.result.now c.self.invariant (omega (arith, c.requires, many)) in
     let end = ap (λ (e : SliceEnd). e.end) c.index.ensures in
-    let start = c.start_of-start.ensures ∙ ap (λ (l : List SliceEnd). slice_start 0 l c.args.number) c.deref.ensures.value in
+    let start = c.start_of-start.ensures ∙ ap (λ (l : List SliceEnd). start_in_run 0 l c.args.number) c.deref.ensures.value in
     omega (arith, within.0, end, start)
 
 pub slice_bounds-result-start : goal.slice_bounds-result-start
@@ -33,7 +33,7 @@ slice_bounds-result-start c =
     let many = ap length (sym c.self.view_is) ∙ how_many 0 run.ends.items run.bytes.items in
     let within = slice_within 0 run.ends.items (length run.bytes.items) c.args.number c.index.result.now c.self.invariant (omega (arith, c.requires, many)) in
     let end = ap (λ (e : SliceEnd). e.end) c.index.ensures in
-    let start = c.start_of-start.ensures ∙ ap (λ (l : List SliceEnd). slice_start 0 l c.args.number) c.deref.ensures.value in
+    let start = c.start_of-start.ensures ∙ ap (λ (l : List SliceEnd). start_in_run 0 l c.args.number) c.deref.ensures.value in
     omega (arith, within.0, end, start)
 
 pub slice_bounds-result-end : goal.slice_bounds-result-end
@@ -51,7 +51,7 @@ returns c =
     let i = c.args.number in
     let many = ap length (sym c.self.view_is) ∙ how_many 0 run.ends.items run.bytes.items in
     let end = ap (λ (e : SliceEnd). e.end) (sym c.index.ensures) in
-    let start = ap (λ (l : List SliceEnd). slice_start 0 l i) (sym c.deref.ensures.value) ∙ sym c.start_of-start.ensures in
+    let start = ap (λ (l : List SliceEnd). start_in_run 0 l i) (sym c.deref.ensures.value) ∙ sym c.start_of-start.ensures in
     let bytes = sym c.deref-2.ensures.value in
     sym (ap (λ (l : List IndexedSlice). get_or (bytes_of_slices l) i []) (sym c.self.view_is)
     ∙ slice_is 0 run.ends.items run.bytes.items i c.index.result.now (omega (arith, c.requires, many))
