@@ -47,6 +47,15 @@ impl KeptMemory {
             low: None,
         }
     }
+
+    /// The memory of planes that are done with serves the next picture.
+    pub(crate) fn reuse(&mut self, planes: [Plane; 3]) {
+        if let Some(builder) = &mut self.builder {
+            builder.keep_planes(planes);
+        } else if let Some(room) = &mut self.low {
+            room.keep_planes(planes);
+        }
+    }
 }
 
 /// The picture of a data unit's body; none where it is refused. The memory is kept from picture to picture.

@@ -109,6 +109,7 @@ impl Playback {
         if let Some(planes) = frame {
             let two = is_wide(&self.header.shape());
             write_frame(alloc, output, &planes, two)?;
+            self.kept.reuse(planes);
             self.frames += 1;
         }
         Ok(())

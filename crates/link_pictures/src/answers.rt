@@ -25,8 +25,9 @@ use vc_types::{NoMemory, Plan, Plane};
 
 /// The answers to slices of pictures that aren't released. Contracts see, of each picture that has
 /// one, its number, its parameters and its answers. A picture reserves 8 bytes a coefficient from its
-/// first answer on, half of which stay untouched until a coefficient may not fit 32 bits, and the memory
-/// of one picture is kept for the next of the same plan. Where there are threads, a picture is transformed
+/// first answer on, half of which stay untouched until a coefficient may not fit 32 bits, and keeps the
+/// strips of its runs until it is transformed. The memory of one picture is kept for the next of the same
+/// plan, that of its strips for other runs. Where there are threads, a picture is transformed
 /// in four parts side by side, by join; otherwise in turn. After `NoMemory` nothing is promised of them.
 #[derive(Drop)]
 pub struct Answers<H> {
@@ -92,8 +93,8 @@ impl<H> Answers<H> {
         Ok(())
     }
 
-    /// Keeps the answers to the slices of a run that have none, as `keep` does. The memory of its strip
-    /// is given back, where it has one.
+    /// Keeps the answers to the slices of a run that have none, as `keep` does. Memory for another strip is
+    /// given, where there is some.
     pub fn keep_run(&mut self, done: RunDone) -> Result<Option<Vec<i32>>, NoMemory>
         ensures value { OnOk result (self.new ≡ keeps_new self.old (answered_run done)) }
     {
@@ -125,6 +126,15 @@ impl<H> Answers<H> {
         let picture = PictureSlices::new(self.alloc, spare, job.number, job.plan)?;
         self.pictures.push(picture)?;
         Ok(self.pictures.len() - 1)
+    }
+
+    /// The memory of planes that are done with serves a later picture.
+    pub fn reuse(&mut self, planes: [Plane; 3])
+        ensures unchanged { self.new ≡ self.old }
+    {
+        if let Some(builder) = &mut self.spare {
+            builder.keep_planes(planes);
+        }
     }
 
     /// Whether there are planes of a picture, which aren't built. Its answers are forgotten, as by

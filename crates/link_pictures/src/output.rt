@@ -30,6 +30,8 @@ pub struct Shown {
 pub struct FrameOutput {
     alloc: Global,
     waiting: Option<Field>,
+    // The planes of the frame that was written last, until they are taken.
+    done: Option<[Plane; 3]>,
 }
 
 impl Model for FrameOutput {
@@ -51,6 +53,7 @@ impl FrameOutput {
         FrameOutput {
             alloc,
             waiting: None,
+            done: None,
         }
     }
 
@@ -103,10 +106,19 @@ impl FrameOutput {
             });
         };
         write_frame(self.alloc, sink, &frame, is_wide(&header.shape()))?;
+        self.done = Some(frame);
         Ok(Shown {
             has_frame: true,
             alone: 0,
         })
+    }
+
+    /// The planes of the frame that was written last, unless they were taken: others may be made in their
+    /// memory.
+    pub fn take_done(&mut self) -> Option<[Plane; 3]>
+        ensures unchanged { self.new ≡ self.old }
+    {
+        self.done.take()
     }
 
     /// The same of a frame that goes nowhere: it is neither woven nor written, and what waits is the same.

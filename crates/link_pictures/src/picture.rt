@@ -101,15 +101,15 @@ impl PictureSlices {
     }
 
     /// Keeps the answers to the slices of a run that have none, if they are by the picture's own
-    /// parameters. The memory of its strip is given back, where it has one.
+    /// parameters. Memory for another strip is given, where there is some.
     pub(crate) fn keep_run(&mut self, done: RunDone) -> Result<Option<Vec<i32>>, NoMemory>
         ensures value { OnOk result (self.new ≡ takes_new self.old (answered_run done)) }
     {
         let RunDone { job, answer } = done;
         match answer {
             RunAnswer::Together(strip) => {
-                self.keep_strip(&job, &strip)?;
-                Ok(Some(strip.into_room()))
+                self.keep_strip(&job, strip)?;
+                Ok(self.spare_room())
             }
             RunAnswer::Apart(answers) => {
                 self.keep_each(&job, answers)?;
@@ -119,10 +119,10 @@ impl PictureSlices {
     }
 
     // The same of a run that was decoded together.
-    fn keep_strip(&mut self, job: &RunJob, strip: &Strip) -> Result<(), NoMemory>
-        requires whole { IsStripOf job.now.plan job.now.first (length job.now.slices.items) strip.now }
+    fn keep_strip(&mut self, job: &RunJob, strip: Strip) -> Result<(), NoMemory>
+        requires whole { IsStripOf job.now.plan job.now.first (length job.now.slices.items) strip }
         requires decoded { map Ok (strip_slices job.now.plan job.now.first
-            (length job.now.slices.items) strip.now)
+            (length job.now.slices.items) strip)
             ≡ decodings job.now.plan job.now.first job.now.slices.items }
         ensures value { OnOk result (self.new ≡ takes_new self.old (made_run job.now)) }
     {
@@ -204,6 +204,13 @@ impl PictureSlices {
             self.make_slice(job, k)?;
         }
         Ok(())
+    }
+
+    // Memory for another strip, where there is some.
+    fn spare_room(&mut self) -> Option<Vec<i32>>
+        ensures unchanged { self.new ≡ self.old }
+    {
+        self.builder.spare_room()
     }
 
     /// Decodes slice number `k` of a run straight to its place, if it has no answer and is by the

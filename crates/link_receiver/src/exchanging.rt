@@ -15,7 +15,7 @@ ghost use Rattle.link_window.specs.Views.{releasable_of};
 use crate::reception::Reception;
 use link_slices::runs_of;
 use link_window::Released;
-use vc_slice::{Places, RunDone, RunJob, RunLoad, SliceJob};
+use vc_slice::{Places, RunDone, RunJob, RunLoad, SliceJob, decode_run};
 use vc_types::NoMemory;
 
 // How many rooms for strips are kept.
@@ -151,9 +151,24 @@ impl<H> Reception<H> {
         ensures out { self.new.out ≡ self.old.out }
     {
         if self.out.count() > 0 {
-            self.make_own(&load.job)?;
+            return self.make_run(load);
         }
         self.keep_room(load.room)
+    }
+
+    // Decodes a run here, and keeps its answers as those of one that came back. Where not all of its slices are
+    // the receiver's own, only those are decoded that are.
+    fn make_run(&mut self, load: RunLoad) -> Result<(), NoMemory>
+        ensures made { OnOk result (self.new ≡ takes_dones self.old (made_run load.job)) }
+        ensures out { self.new.out ≡ self.old.out }
+    {
+        let RunLoad { job, room } = load;
+        if !self.are_own(&job) {
+            self.make_own(&job)?;
+            return self.keep_room(room);
+        }
+        let done = decode_run(self.alloc, job, room)?;
+        self.keep_own(done)
     }
 
     // Decodes those slices of a run that are the receiver's own and have no answer.
@@ -244,11 +259,10 @@ impl<H> Reception<H> {
             return Ok(());
         }
         let place = self.out.place(i);
-        let Some(RunLoad { job, room }) = self.out.take_back(place, places) else {
+        let Some(load) = self.out.take_back(place, places) else {
             return Ok(());
         };
-        self.make_own(&job)?;
-        self.keep_room(room)
+        self.make_run(load)
     }
 
     // Asks the place of each run that is out. Answers whether something came back.
@@ -303,6 +317,15 @@ impl<H> Reception<H> {
         if !self.are_own(&done.job) {
             return self.make_own(&done.job);
         }
+        self.keep_own(done)
+    }
+
+    // The same of a run whose slices are all the receiver's own.
+    fn keep_own(&mut self, done: RunDone) -> Result<(), NoMemory>
+        requires own { list_all (is_own self.old) (jobs_of_run done.job) ≡ true }
+        ensures value { OnOk result (self.new ≡ takes_dones self.old (answered_run done)) }
+        ensures out { self.new.out ≡ self.old.out }
+    {
         if let Some(room) = self.answers.keep_run(done)? {
             self.keep_room(room)?;
         }

@@ -63,7 +63,18 @@ fn show_frame<H: Threads + Copy, O: Sink>(
     let planes = take_planes(answers, standing, number)?;
     let is_sound = planes.is_some();
     let shown = field.release(standing.header(), number, planes, sink)?;
+    hand_back(answers, field);
     Ok(Seen { is_sound, shown })
+}
+
+// Later planes may be made in the memory of those that were written.
+fn hand_back<H>(answers: &mut Answers<H>, field: &mut FrameOutput)
+    ensures answers { answers.new ≡ answers.old }
+    ensures field { field.new ≡ field.old }
+{
+    if let Some(planes) = field.take_done() {
+        answers.reuse(planes);
+    }
 }
 
 fn show_units<H: Threads + Copy, O: Sink>(

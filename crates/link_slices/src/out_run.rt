@@ -1,5 +1,5 @@
 ghost use Rattle.std.specs.Prelude.{◌≡◌};
-ghost use Rattle.receiver_model.specs.Exchanging.{not_at, out_at};
+ghost use Rattle.receiver_model.specs.Exchanging.{out_at};
 ghost use Rattle.receiver_model.specs.Releasing.{is_of_other};
 ghost use Rattle.link_slices.specs.Jobs.{jobs_of_run};
 
@@ -51,12 +51,6 @@ impl OutRun {
         ensures { result ≡ self.now.place }
     {
         self.place
-    }
-
-    pub(crate) fn is_elsewhere(&self, place: u32) -> bool
-        ensures { result ≡ not_at place self.now }
-    {
-        self.place != place
     }
 
     pub(crate) fn is_of_other(&self, number: u64) -> bool

@@ -1,5 +1,5 @@
-ghost use Rattle.std.specs.Prelude.{◌≡◌, ◌<◌, IfOk, IfSome, OnErr, filter, length, slice_get, [], ℕ};
-ghost use Rattle.std.specs.Prelude.{Option, Some};
+ghost use Rattle.std.specs.Prelude.{◌≡◌, ◌<◌, ◌==◌, IfOk, IfSome, OnErr, filter, length, position, slice_get};
+ghost use Rattle.std.specs.Prelude.{[], ℕ, Option, Some};
 ghost use Rattle.std.specs.Option.{option_map};
 ghost use Rattle.receiver_model.specs.Exchanging.{Proposed, Fetched, not_at};
 ghost use Rattle.receiver_model.specs.Releasing.{is_of_other};
@@ -112,7 +112,9 @@ impl RunsOut {
     fn forget(&mut self, place: u32)
         ensures { self.new ≡ filter (not_at place) self.old }
     {
-        self.runs.retain(|run| run.is_elsewhere(place));
+        while let Some(i) = index_at(&self.runs, place) {
+            self.runs.remove(i);
+        }
     }
 
     /// Frees each place where a run of the picture is. None of them is out then.
@@ -127,6 +129,13 @@ impl RunsOut {
         free_runs(&self.runs, number, places);
         self.runs.retain(|run| run.is_of_other(number));
     }
+}
+
+// The first of the runs that are at a place.
+fn index_at(runs: &[OutRun], place: u32) -> Option<usize>
+    ensures { result ≡ position (λ run. run.place == place) runs.now }
+{
+    runs.iter().position(|run| run.place() == place)
 }
 
 fn free_runs<P: Places>(runs: &[OutRun], number: u64, places: &mut P)

@@ -23,3 +23,4 @@ pub mod FilledRuns
 pub mod KeptRuns
 pub mod RunSlices
 pub mod LargestSlices
+pub mod WaitingRuns

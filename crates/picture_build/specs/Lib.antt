@@ -5,3 +5,5 @@ pub mod Kept
 pub mod Puts
 pub mod Output
 pub mod OfPlan
+pub mod Waiting
+pub mod Marks

@@ -10,18 +10,20 @@ ghost use Rattle.vc_types.specs.TransformParameters.{parameters_of};
 ghost use Rattle.vc_slice.specs.Bands.{coefficient_count, coefficients_of_block};
 ghost use Rattle.vc_geometry.specs.OfPlan.{run_coefficient_count};
 ghost use Rattle.vc_slice.specs.Coded.{coded_of};
-ghost use Rattle.vc_slice.specs.OfPlan.{IsStripOf};
 ghost use Rattle.vc_geometry.specs.CellRects.{ChangesRect, LiesIn, cell_in};
 ghost use Rattle.picture_build.specs.Kept.{ChangesOnly, FillsRun, FillsSlice};
+ghost use Rattle.picture_build.specs.Waiting.{AreRunsOf, FillsRuns};
 ghost use Rattle.picture_build.specs.PartsKept.{place_kept, AreCells, ChangesPart, FillsPart};
 ghost use Rattle.vc_types.specs.OfPlan.{AreSliceCoefficients, all_coefficients, padded_height, padded_width};
 ghost use Rattle.vc_types.specs.OfPlan.{slice_coefficient_count, slice_coefficients, slice_count};
 
 use crate::cells::CoefficientCells;
+use crate::waiting::WaitingRun;
 use crate::wide::{place_wide, put_wide_numbers};
+use std::thread::{Threads, join_mut};
 use vc_geometry::{CellRect, bands as band_count, padded};
 use vc_slice::{
-    CodedSlice, CoefficientList, RunParts, SliceBands, SliceCoeffs, SliceParts, Strip, TooWide,
+    CodedSlice, CoefficientList, RunParts, SliceBands, SliceCoeffs, SliceParts, TooWide,
     read_numbers,
 };
 use vc_types::{Component, Plan};
@@ -214,31 +216,66 @@ fn place_rect(to: &CellRect, numbers: &[i32], from: usize, cells: &mut Coefficie
     }
 }
 
-/// Puts the coefficients of a run at their places in the cells of the three components.
-pub(crate) fn fill_strip(
-    run: &RunParts,
-    strip: &Strip,
+/// Puts runs at their places in the cells of a component, one after another.
+pub(crate) fn place_runs(
+    plan: &Plan,
+    c: Component,
+    runs: &[WaitingRun],
+    cells: &mut CoefficientCells,
+)
+    requires runs { AreRunsOf (parameters_of plan.now) runs.now }
+    requires cells { length cells.old ≡ padded_height plan.now c * padded_width plan.now c }
+    ensures { FillsRuns (parameters_of plan.now) c runs.now cells.old cells.new }
+{
+    for waiting in runs {
+        let run = RunParts::new(plan, waiting.first, waiting.count);
+        place_run(&run, c, waiting.strip.component(c), cells);
+    }
+}
+
+/// The same of the three components, side by side, by join.
+pub(crate) fn place_runs_joined<H: Threads>(
+    rt: &H,
+    plan: &Plan,
+    runs: &[WaitingRun],
     y: &mut CoefficientCells,
     c1: &mut CoefficientCells,
     c2: &mut CoefficientCells,
 )
-    requires strip { IsStripOf run.now.plan run.now.first run.now.count strip.now }
-    requires y { length y.old
-        ≡ padded_height run.now.plan Y * padded_width run.now.plan Y }
-    requires c1 { length c1.old
-        ≡ padded_height run.now.plan C1 * padded_width run.now.plan C1 }
-    requires c2 { length c2.old
-        ≡ padded_height run.now.plan C2 * padded_width run.now.plan C2 }
-    ensures y { FillsRun (parameters_of run.now.plan) Y run.now.first run.now.count
-        strip.now.y y.old y.new }
-    ensures c1 { FillsRun (parameters_of run.now.plan) C1 run.now.first run.now.count
-        strip.now.c1 c1.old c1.new }
-    ensures c2 { FillsRun (parameters_of run.now.plan) C2 run.now.first run.now.count
-        strip.now.c2 c2.old c2.new }
+    requires runs { AreRunsOf (parameters_of plan.now) runs.now }
+    requires y { length y.old ≡ padded_height plan.now Y * padded_width plan.now Y }
+    requires c1 { length c1.old ≡ padded_height plan.now C1 * padded_width plan.now C1 }
+    requires c2 { length c2.old ≡ padded_height plan.now C2 * padded_width plan.now C2 }
+    ensures y { FillsRuns (parameters_of plan.now) Y runs.now y.old y.new }
+    ensures c1 { FillsRuns (parameters_of plan.now) C1 runs.now c1.old c1.new }
+    ensures c2 { FillsRuns (parameters_of plan.now) C2 runs.now c2.old c2.new }
 {
-    place_run(run, Component::Y, strip.component(Component::Y), y);
-    place_run(run, Component::C1, strip.component(Component::C1), c1);
-    place_run(run, Component::C2, strip.component(Component::C2), c2);
+    join_mut(
+        rt,
+        &mut || place_runs(plan, Component::C1, runs, c1),
+        &mut || place_beside(rt, plan, runs, c2, y),
+    );
+}
+
+// Those of C2 and luma, side by side.
+fn place_beside<H: Threads>(
+    rt: &H,
+    plan: &Plan,
+    runs: &[WaitingRun],
+    c2: &mut CoefficientCells,
+    y: &mut CoefficientCells,
+)
+    requires runs { AreRunsOf (parameters_of plan.now) runs.now }
+    requires c2 { length c2.old ≡ padded_height plan.now C2 * padded_width plan.now C2 }
+    requires y { length y.old ≡ padded_height plan.now Y * padded_width plan.now Y }
+    ensures c2 { FillsRuns (parameters_of plan.now) C2 runs.now c2.old c2.new }
+    ensures y { FillsRuns (parameters_of plan.now) Y runs.now y.old y.new }
+{
+    join_mut(
+        rt,
+        &mut || place_runs(plan, Component::C2, runs, c2),
+        &mut || place_runs(plan, Component::Y, runs, y),
+    );
 }
 
 // Puts a component of a run at its places: each subband's rectangle of the run, row by row.

@@ -11,6 +11,7 @@ use crate::cells::CoefficientCells;
 use crate::long::long_plane;
 use crate::narrow::{narrow_plane, narrow_plane_joined};
 use crate::output::output;
+use crate::room::Room;
 use std::alloc::Global;
 use std::thread::{Threads, join_mut};
 use vc_geometry::padded;
@@ -25,23 +26,30 @@ pub(crate) struct PictureCells<'a> {
     pub(crate) c2: &'a CoefficientCells,
 }
 
-/// Lists to work in for each component. One that hasn't the length that the component's transform needs is
-/// replaced.
+/// Memory for the planes of each component.
 #[derive(Drop)]
 pub(crate) struct Rooms {
-    pub(crate) y: Vec<i32>,
-    pub(crate) c1: Vec<i32>,
-    pub(crate) c2: Vec<i32>,
+    pub(crate) y: Room,
+    pub(crate) c1: Room,
+    pub(crate) c2: Room,
 }
 
 impl Rooms {
-    /// Lists that have no memory yet.
+    /// No memory yet.
     pub(crate) fn new(alloc: Global) -> Rooms {
         Rooms {
-            y: Vec::new(alloc),
-            c1: Vec::new(alloc),
-            c2: Vec::new(alloc),
+            y: Room::new(alloc),
+            c1: Room::new(alloc),
+            c2: Room::new(alloc),
         }
+    }
+
+    /// The memory of planes that are done with serves the next ones.
+    pub(crate) fn keep(&mut self, planes: [Plane; 3]) {
+        let [y, c1, c2] = planes;
+        self.y.keep(y);
+        self.c1.keep(c1);
+        self.c2.keep(c2);
     }
 }
 
@@ -59,7 +67,7 @@ pub(crate) fn planes_in_turn(
 {
     let y = component(alloc, plan, Component::Y, cells.y, &mut rooms.y)?;
     let c1 = component(alloc, plan, Component::C1, cells.c1, &mut rooms.c1)?;
-    let c2 = component(alloc, plan, Component::C2, cells.c2, &mut rooms.c1)?;
+    let c2 = component(alloc, plan, Component::C2, cells.c2, &mut rooms.c2)?;
     Ok([y, c1, c2])
 }
 
@@ -97,9 +105,9 @@ fn joined<H: Threads>(
     alloc: Global,
     plan: &Plan,
     cells: &PictureCells<'_>,
-    luma: &mut Vec<i32>,
-    first: &mut Vec<i32>,
-    second: &mut Vec<i32>,
+    luma: &mut Room,
+    first: &mut Room,
+    second: &mut Room,
 ) -> (Answer, (Answer, Answer))
     requires { (slices : List Coefficients) × AllAreIn (parameters_of plan.now) slices
         cells.now.y.now cells.now.c1.now cells.now.c2.now }
@@ -120,8 +128,8 @@ fn luma_beside_second<H: Threads>(
     alloc: Global,
     plan: &Plan,
     cells: &PictureCells<'_>,
-    luma: &mut Vec<i32>,
-    second: &mut Vec<i32>,
+    luma: &mut Room,
+    second: &mut Room,
 ) -> (Answer, Answer)
     requires { (slices : List Coefficients)
         × AreIn (parameters_of plan.now) Y slices cells.now.y.now
@@ -142,12 +150,12 @@ fn component(
     plan: &Plan,
     c: Component,
     cells: &CoefficientCells,
-    work: &mut Vec<i32>,
+    room: &mut Room,
 ) -> Result<Plane, NoMemory>
     requires whole { HoldsComponent plan.now c cells.now }
     ensures value { IfOk result (λ plane. IsPlaneOf plan.now c cells.now plane) }
 {
-    match narrow_plane(alloc, plan, c, cells, work)? {
+    match narrow_plane(alloc, plan, c, cells, room)? {
         Some(plane) => Ok(plane),
         None => wide_component(alloc, plan, c, cells),
     }
@@ -160,12 +168,12 @@ fn component_joined<H: Threads>(
     plan: &Plan,
     c: Component,
     cells: &CoefficientCells,
-    work: &mut Vec<i32>,
+    room: &mut Room,
 ) -> Result<Plane, NoMemory>
     requires whole { HoldsComponent plan.now c cells.now }
     ensures value { IfOk result (λ plane. IsPlaneOf plan.now c cells.now plane) }
 {
-    match narrow_plane_joined(rt, alloc, plan, c, cells, work)? {
+    match narrow_plane_joined(rt, alloc, plan, c, cells, room)? {
         Some(plane) => Ok(plane),
         None => wide_component(alloc, plan, c, cells),
     }

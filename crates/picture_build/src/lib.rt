@@ -10,9 +10,13 @@ mod filling;
 mod finishing;
 mod laws;
 mod long;
+mod marking;
 mod narrow;
 mod output;
+mod placed;
+mod room;
 mod sizes;
+mod waiting;
 mod wide;
 
 pub use builder::{NotPut, PictureBuilder};
@@ -20,3 +24,4 @@ pub use building::{build, build_joined};
 pub use dequantising::put_dequantised;
 pub use laws::{fields_can_be_woven, planes_have_their_shape};
 pub use narrow::nested_plane;
+pub use room::Room;

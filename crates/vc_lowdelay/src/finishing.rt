@@ -11,7 +11,7 @@ ghost use Rattle.vc_lowdelay.specs.Narrow.{HasPaddedSize, kept_plane};
 
 use crate::refusal::NarrowFault;
 use crate::room::LowRoom;
-use picture_build::nested_plane;
+use picture_build::{Room, nested_plane};
 use std::alloc::Global;
 use std::thread::{Threads, join_mut};
 use vc_types::{Component, Plan, Plane};
@@ -66,8 +66,8 @@ fn joined<H: Threads>(
     alloc: Global,
     plan: &Plan,
     cells: &PictureCells<'_>,
-    luma: &mut Vec<i32>,
-    colour: &mut Vec<i32>,
+    luma: &mut Room,
+    colour: &mut Room,
 ) -> (Answer, (Answer, Answer))
     requires y { HasPaddedSize (parameters_of plan.now) Y cells.now.y.now }
     requires c1 { HasPaddedSize (parameters_of plan.now) C1 cells.now.c1.now }
@@ -90,7 +90,7 @@ fn colours(
     alloc: Global,
     plan: &Plan,
     cells: &PictureCells<'_>,
-    work: &mut Vec<i32>,
+    memory: &mut Room,
 ) -> (Answer, Answer)
     requires c1 { HasPaddedSize (parameters_of plan.now) C1 cells.now.c1.now }
     requires c2 { HasPaddedSize (parameters_of plan.now) C2 cells.now.c2.now }
@@ -100,23 +100,23 @@ fn colours(
         (λ plane. plane ≡ kept_plane (parameters_of plan.now) C2 cells.now.c2.now) }
 {
     (
-        plane(alloc, plan, Component::C1, cells.c1, work),
-        plane(alloc, plan, Component::C2, cells.c2, work),
+        plane(alloc, plan, Component::C1, cells.c1, memory),
+        plane(alloc, plan, Component::C2, cells.c2, memory),
     )
 }
 
-// The plane of a component. The list is room to work in.
+// The plane of a component.
 fn plane(
     alloc: Global,
     plan: &Plan,
     c: Component,
     nested: &[i32],
-    work: &mut Vec<i32>,
+    memory: &mut Room,
 ) -> Result<Plane, NarrowFault>
     requires { HasPaddedSize (parameters_of plan.now) c nested.now }
     ensures { IfOk result (λ plane. plane ≡ kept_plane (parameters_of plan.now) c nested.now) }
 {
-    match nested_plane(alloc, plan, c, nested, work)? {
+    match nested_plane(alloc, plan, c, nested, memory)? {
         Some(plane) => Ok(plane),
         None => Err(NarrowFault::TooWide),
     }

@@ -3,13 +3,15 @@ ghost use Rattle.vc_types.specs.TransformParameters.{parameters_of};
 ghost use Rattle.vc_lowdelay.specs.InRoom.{HasCells};
 ghost use Rattle.vc_lowdelay.specs.Narrow.{HasPaddedSize};
 
+use picture_build::Room;
 use std::alloc::Global;
 use vc_geometry::padded;
-use vc_types::{Component, NoMemory, Plan};
+use vc_types::{Component, NoMemory, Plan, Plane};
 
 /// Memory to decode pictures in, which is kept from picture to picture: what it holds between two of them
 /// says nothing. It has 4 bytes for each coefficient, 4 for each sample of luma and of a colour component,
-/// and 4 for each number of the largest slice, in which those of the colours count twice.
+/// and 4 for each number of the largest slice, in which those of the colours count twice; and 2 for each
+/// sample of luma and of a colour component of planes that were handed back.
 #[derive(Drop)]
 pub struct LowRoom {
     // The coefficients of each component, at their places.
@@ -20,8 +22,8 @@ pub struct LowRoom {
     pub(crate) numbers: Vec<i32>,
     pub(crate) turns: Vec<i32>,
     // What luma and a colour component are transformed in.
-    pub(crate) luma: Vec<i32>,
-    pub(crate) colour: Vec<i32>,
+    pub(crate) luma: Room,
+    pub(crate) colour: Room,
 }
 
 impl LowRoom {
@@ -33,9 +35,17 @@ impl LowRoom {
             c2: Vec::new(alloc),
             numbers: Vec::new(alloc),
             turns: Vec::new(alloc),
-            luma: Vec::new(alloc),
-            colour: Vec::new(alloc),
+            luma: Room::new(alloc),
+            colour: Room::new(alloc),
         }
+    }
+
+    /// The memory of planes that are done with serves the next ones: that of luma, and of a colour component.
+    pub fn keep_planes(&mut self, planes: [Plane; 3]) {
+        let [y, c1, c2] = planes;
+        self.luma.keep(y);
+        self.colour.keep(c1);
+        drop(c2);
     }
 
     /// Has as many cells as the components of a plan's picture.

@@ -13,7 +13,7 @@ returns-then-inverse_output_joined g c =
     let samples = c.inverse_output_joined.new.samples in
     let width = c.format-width.result.0 in
     let height = c.format-width.result.1 in
-    let whole : length samples ≡ height * width = omega (arith, c.in_ok-samples.ensures.len) in
+    let whole : length samples ≡ height * width = omega (arith, c.in_ok-samples.ensures.samples) in
     plane-filled p c.args.c c.new.result width height c.format-width.result.2 samples (inverse_transform p c.args.c (plane_of (padded_width p c.args.c) c.args.nested.now))
     (c.new.ensures ∙ ap (λ (xs : List ℕ). record { width = width; height = height; samples = xs }) (written_over c.in_ok-samples.samples.len samples (drop (length samples) c.in_ok-samples.samples.items) (omega arith)))
     c.format-width.ensures.width c.format-width.ensures.height c.format-width.ensures.depth whole

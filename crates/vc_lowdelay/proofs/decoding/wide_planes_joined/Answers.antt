@@ -1,5 +1,5 @@
 use Rattle.std.proofs.Common.{◌≡◌, ℕ, Ok, Err, rules}
-use Rattle.vc_lowdelay.specs.declared.refusal.LowRefusal.TheVariants.{NoMemory}
+use Rattle.std.proofs.lemmas.Result.{err_from_is_err_and}
 use Rattle.vc_lowdelay.proofs.Decodings.{has_all, planes_answer}
 use Rattle.vc_lowdelay.proofs.decoding.wide_planes_joined.Goals as goal
 
@@ -13,8 +13,8 @@ planes_joined-requires g c = record { whole = has_all c.args.p.now c.args.bytes.
 
 pub returns-in_err-planes_joined-clause-refused : goal.returns-in_err-planes_joined-clause-refused
 returns-in_err-planes_joined-clause-refused g c =
-    let same : c.from_residual-in_err-planes_joined.result ≡ Err NoMemory = search rules in
-    rw same tt
+    let p = err_from_is_err_and c.from_residual-in_err-planes_joined.result c.from_residual-in_err-planes_joined.ensures.1 in
+    rw (p.1, p.2) tt
 
 pub returns-clause-value : goal.returns-clause-value
 returns-clause-value g c = planes_answer c.args.p.now c.args.bytes.now {E = ℕ} c.in_ok-picture.picture c.in_ok-picture.ensures.value c.in_ok-picture.ensures.sound (Ok c.in_ok-planes_joined.field-0) c.in_ok-planes_joined.ensures.value

@@ -5,7 +5,7 @@ use Rattle.link_pictures.proofs.picture.PictureSlices.keep_run.Goals as goal
 
 pub returns-in-Together : goal.returns-in-Together
 returns-in-Together c = record {
-  value = c.in_ok-keep_strip-in-Together.ensures.value ∙ ap (takes_new c.args.self.now) (answers_are_own c.args.done);
+  value = c.spare_room.ensures.unchanged ∙ c.in_ok-keep_strip-in-Together.ensures.value ∙ ap (takes_new c.args.self.now) (answers_are_own c.args.done);
 }
 
 pub returns : goal.returns

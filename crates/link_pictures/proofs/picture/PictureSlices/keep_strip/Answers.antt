@@ -49,24 +49,24 @@ fill_run-requires-clause-whole c =
     let job = c.args.job.now in
     let long : c.len.result ≡ length job.slices.items = search rules in
     let same = (parameters_exactly _ _).0 (sym c.has_plan.ensures ∙ c.if-not-has_plan.false) in
-    subst (λ (p : Parameters). IsStripOf p job.first c.len.result c.args.strip.now) (sym same)
-    (subst (λ (n : ℕ). IsStripOf (parameters_of job.plan) job.first n c.args.strip.now) (sym long) c.requires.whole)
+    subst (λ (p : Parameters). IsStripOf p job.first c.len.result c.args.strip) (sym same)
+    (subst (λ (n : ℕ). IsStripOf (parameters_of job.plan) job.first n c.args.strip) (sym long) c.requires.whole)
 
 pub fill_run-requires-clause-sound : goal.fill_run-requires-clause-sound
 fill_run-requires-clause-sound c =
     let job = c.args.job.now in
     let long : c.len.result ≡ length job.slices.items = search rules in
     let same = (parameters_exactly _ _).0 (sym c.has_plan.ensures ∙ c.if-not-has_plan.false) in
-    subst (λ (p : Parameters). AreSoundCuts p job.first c.len.result c.args.strip.now) (sym same)
-    (subst (λ (n : ℕ). AreSoundCuts (parameters_of job.plan) job.first n c.args.strip.now) (sym long)
-    (together-sound (parameters_of job.plan) job.first job.slices.items c.args.strip.now c.requires.decoded))
+    subst (λ (p : Parameters). AreSoundCuts p job.first c.len.result c.args.strip) (sym same)
+    (subst (λ (n : ℕ). AreSoundCuts (parameters_of job.plan) job.first n c.args.strip) (sym long)
+    (together-sound (parameters_of job.plan) job.first job.slices.items c.args.strip c.requires.decoded))
 
 pub invariant_of-self : goal.invariant_of-self
 invariant_of-self c =
     let s = c.self.inside in
     let job = c.args.job.now in
     subst (λ (q : PartPicture). HasEntries q s.unsound.items) (sym c.fill_run.ensures.value)
-    (run_entries s.builder s.unsound.items job.first (strip_slices s.builder.parameters job.first c.len.result c.args.strip.now) c.self.invariant)
+    (run_entries s.builder s.unsound.items job.first (strip_slices s.builder.parameters job.first c.len.result c.args.strip) c.self.invariant)
 
 pub returns : goal.returns
 returns c =
@@ -77,16 +77,16 @@ returns c =
     let counted : c.len.result ≡ count = search rules in
     let is : same_parameters s.builder.parameters p ≡ true = sym c.has_plan.ensures ∙ c.if-not-has_plan.false in
     let same : s.builder.parameters ≡ p = (parameters_exactly s.builder.parameters p).0 is in
-    let cuts = strip_slices p job.first count c.args.strip.now in
-    let long : length cuts ≡ count = length-map-range_with_len (strip_slice p job.first count c.args.strip.now) job.first count in
+    let cuts = strip_slices p job.first count c.args.strip in
+    let long : length cuts ≡ count = length-map-range_with_len (strip_slice p job.first count c.args.strip) job.first count in
     let in_picture : job.first + count ≤ slice_count p = run-inside p job.first count job.run in
     let inside : job.first + length cuts ≤ slice_count s.builder.parameters =
     subst (λ (q : Parameters). job.first + length cuts ≤ slice_count q) (sym same) (omega (arith, in_picture, long)) in
     record {
       value = ap (λ (q : PartPicture). seen_answers s.number q s.unsound.items)
           (c.fill_run.ensures.value
-          ∙ ap (λ (n : ℕ). with_run s.builder job.first (strip_slices s.builder.parameters job.first n c.args.strip.now)) counted
-          ∙ ap (λ (q : Parameters). with_run s.builder job.first (strip_slices q job.first count c.args.strip.now)) same)
+          ∙ ap (λ (n : ℕ). with_run s.builder job.first (strip_slices s.builder.parameters job.first n c.args.strip)) counted
+          ∙ ap (λ (q : Parameters). with_run s.builder job.first (strip_slices q job.first count c.args.strip)) same)
           ∙ strip_run s.number s.unsound.items s.builder job cuts long c.requires.decoded c.self.invariant is inside
           (λ k h. still_none s.builder s.unsound.items c.self.invariant s.number (job.first + k) c.args.self.now c.self.view_is (c.has_none.ensures c.if-not-has_none.false k (omega (arith, h, long))))
           ∙ ap (λ (a : PictureAnswers). takes_new a (made_run job)) c.self.view_is;

@@ -1,6 +1,6 @@
-use Rattle.std.proofs.Common.{◌∙◌, subst, sym}
+use Rattle.std.proofs.Common.{subst, sym}
 use Rattle.receiver_model.specs.Receptions.{Reception}
-use Rattle.link_receiver.proofs.CallSteps.{on_ok}
+use Rattle.std.proofs.lemmas.Result.{on_ok_weaker}
 use Rattle.link_receiver.proofs.Stays.{below_got}
 use Rattle.link_receiver.proofs.Steps.{takes_over}
 use Rattle.link_receiver.specs.contracts.reception.Reception.{the_view}
@@ -16,8 +16,8 @@ take_back-requires-clause-place g c =
 
 pub returns-clause-exchanged : goal.returns-clause-exchanged
 returns-clause-exchanged g c =
-    rw (← c.self.view_is) (on_ok c.keep_room.result _
+    rw (← c.self.view_is) (on_ok_weaker c.make_run.result
     (takes_over (g.P.Places.told c.args.places.now) (g.P.Places.told c.take_back.new.places)
-    (the_view g.row.H c.self.inside) c.take_back.new.self c.keep_room.new.self
-    c.place-place.result c.in-Some.field-0.job c.in-Some.ensures.told c.in-Some.ensures.out
-    (c.keep_room.ensures.unchanged ∙ c.in_ok-make_own.ensures.made)))
+    (the_view g.row.H c.self.inside) c.take_back.new.self c.make_run.new.self
+    c.place-place.result c.in-Some.load.job c.in-Some.ensures.told c.in-Some.ensures.out)
+    c.make_run.ensures.made)

@@ -1,18 +1,36 @@
-use Rattle.std.proofs.Common.{sym, subst, ◌∙◌, length}
-use Rattle.std.specs.Vec.{with_items}
+use Rattle.std.proofs.Common.{arith, sym, subst}
 use Rattle.vc_types.specs.SliceCoefficients.{AreSliceCoefficients}
-use Rattle.vc_types.specs.TransformParameters.{parameters_of}
-use Rattle.vc_types.proofs.SliceCounts.{some_across, some_down}
-use Rattle.picture_build.specs.Kept.{PartPicture}
-use Rattle.picture_build.proofs.SeenSlices.{seen_more, kept_one_more}
+use Rattle.vc_types.specs.TransformParameters.{Parameters}
+use Rattle.picture_build.proofs.WaitingRuns.{seen-parameters, seen-in_plan, seen-once, seen-entry, seen-slice, slice-waiting}
 use Rattle.picture_build.proofs.builder.PictureBuilder.fill.Goals as goal
+
+pub fill-requires-clause-in_plan : goal.fill-requires-clause-in_plan
+fill-requires-clause-in_plan c =
+    let s = c.self.inside in
+    seen-in_plan s.placed s.runs s.came.items c.self.invariant c.args.self.now c.self.view_is c.args.index c.requires.in_plan c.requires.once
+
+pub fill-requires-clause-once : goal.fill-requires-clause-once
+fill-requires-clause-once c =
+    let s = c.self.inside in
+    seen-once s.placed s.runs s.came.items c.self.invariant c.args.self.now c.self.view_is c.args.index c.requires.in_plan c.requires.once
+
+pub fill-requires-clause-whole : goal.fill-requires-clause-whole
+fill-requires-clause-whole c =
+    let s = c.self.inside in
+    subst (λ (p : Parameters). AreSliceCoefficients p c.args.index c.args.c.now) (sym (seen-parameters s.placed s.runs s.came.items c.self.invariant c.args.self.now c.self.view_is)) c.requires.whole
 
 pub invariant_of-self : goal.invariant_of-self
 invariant_of-self c =
-    let sound = subst (λ (q : PartPicture). AreSliceCoefficients q.parameters c.args.index c.args.c.now) (sym c.self.view_is) c.requires.whole in
-    kept_one_more (parameters_of c.self.inside.plan) (some_across c.self.inside.plan.slices_x c.self.inside.plan.slices_y c.self.inside.plan.slices) (some_down c.self.inside.plan.slices_x c.self.inside.plan.slices_y c.self.inside.plan.slices) c.self.inside.came.items c.self.inside.y c.self.inside.c1 c.self.inside.c2 (length c.self.inside.numbers.items) c.self.invariant c.args.self.now c.self.view_is c.args.index c.requires.in_plan c.requires.once c.fill_slice.new.y c.fill_slice.new.c1 c.fill_slice.new.c2 c.args.c.now sound c.fill_slice.ensures.y c.fill_slice.ensures.c1 c.fill_slice.ensures.c2 (length (with_items c.self.inside.numbers c.fill_slice.new.numbers).items) (sym (with_items c.self.inside.numbers c.fill_slice.new.numbers).ok.0 ∙ c.self.inside.numbers.ok.0)
+    let s = c.self.inside in
+    slice-waiting s.placed s.runs s.came.items c.self.invariant c.args.self.now c.self.view_is c.args.index c.requires.in_plan c.requires.once c.args.c.now c.fill.new.self c.fill.ensures.value
 
 pub returns : goal.returns
 returns c =
-    let sound = subst (λ (q : PartPicture). AreSliceCoefficients q.parameters c.args.index c.args.c.now) (sym c.self.view_is) c.requires.whole in
-    record { value = seen_more (parameters_of c.self.inside.plan) (some_across c.self.inside.plan.slices_x c.self.inside.plan.slices_y c.self.inside.plan.slices) (some_down c.self.inside.plan.slices_x c.self.inside.plan.slices_y c.self.inside.plan.slices) c.self.inside.came.items c.self.inside.y c.self.inside.c1 c.self.inside.c2 (length c.self.inside.numbers.items) c.self.invariant c.args.self.now c.self.view_is c.args.index c.requires.in_plan c.requires.once c.fill_slice.new.y c.fill_slice.new.c1 c.fill_slice.new.c2 c.args.c.now sound c.fill_slice.ensures.y c.fill_slice.ensures.c1 c.fill_slice.ensures.c2 (length (with_items c.self.inside.numbers c.fill_slice.new.numbers).items) (sym (with_items c.self.inside.numbers c.fill_slice.new.numbers).ok.0 ∙ c.self.inside.numbers.ok.0) }
+    let s = c.self.inside in
+    record { value = seen-slice s.placed s.runs s.came.items c.self.invariant c.args.self.now c.self.view_is c.args.index c.requires.in_plan c.requires.once c.args.c.now c.fill.new.self c.fill.ensures.value }
+
+pub index_mut-requires : goal.index_mut-requires
+index_mut-requires c =
+    let s = c.self.inside in
+    let entry = seen-entry s.placed s.runs s.came.items c.self.invariant c.args.self.now c.self.view_is c.args.index c.requires.in_plan c.requires.once in
+    omega (arith, entry, s.came.ok.0)

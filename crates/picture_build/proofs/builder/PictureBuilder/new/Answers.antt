@@ -1,26 +1,18 @@
-use Rattle.std.proofs.Common.{arith, rules, refl, sym, ap, subst, ◌∙◌, ◌≡◌, length, false}
+use Rattle.std.proofs.Common.{rules, refl, ◌≡◌, false}
+use Rattle.std.specs.Prelude.{replicate}
 use Rattle.vc_types.specs.Subbands.{slice_count}
 use Rattle.vc_types.specs.TransformParameters.{parameters_of}
-use Rattle.picture_build.specs.Kept.{IsKept}
-use Rattle.picture_build.proofs.KeptSlices.{nothing_kept, kept_none}
-use Rattle.picture_build.proofs.SeenSlices.{seen}
-use Rattle.std.specs.Prelude.{replicate}
+use Rattle.picture_build.proofs.WaitingRuns.{waiting-begun, seen-begun}
 use Rattle.picture_build.proofs.builder.PictureBuilder.new.Goals as goal
 
 pub invariant_of-result : goal.invariant_of-result
 invariant_of-result c =
     let p = parameters_of c.args.plan in
     let none : c.in_ok-came.came.items ≡ replicate (slice_count p) false = search rules in
-    subst (λ came. IsKept p came c.in_ok-y.y c.in_ok-c1.c1 c.in_ok-c2.c2 (length c.in_ok-numbers.numbers.items)) (sym none)
-    (kept_none p c.in_ok-y.y c.in_ok-c1.c1 c.in_ok-c2.c2 (length c.in_ok-numbers.numbers.items) (slice_count p) refl
-    (search rules) (search rules) (search rules)
-    (λ k n h. (let most = c.most_coefficients.ensures.most k n h in omega (arith, most, c.in_ok-numbers.ensures.len, c.in_ok-numbers.numbers.ok.0))))
+    waiting-begun p c.in_ok-placed.placed c.new-2.result c.in_ok-came.came.items (slice_count p) c.in_ok-placed.ensures.value c.new-2.ensures none refl
 
 pub returns : goal.returns
 returns c =
     let p = parameters_of c.args.plan in
     let none : c.in_ok-came.came.items ≡ replicate (slice_count p) false = search rules in
-    record {
-      value = ap (λ came. seen p came c.in_ok-y.y c.in_ok-c1.c1 c.in_ok-c2.c2) none
-          ∙ ap (λ slices. record { parameters = p; slices = slices }) (nothing_kept p c.in_ok-y.y c.in_ok-c1.c1 c.in_ok-c2.c2 (slice_count p));
-    }
+    record { value = seen-begun p c.in_ok-placed.placed c.new-2.result c.in_ok-came.came.items (slice_count p) c.in_ok-placed.ensures.value c.new-2.ensures none refl }

@@ -1,55 +1,64 @@
-use Rattle.std.proofs.Common.{arith, refl, sym, ap, subst, ◌∙◌, ◌≡◌, length}
-use Rattle.std.specs.Prelude.{Ok, Err}
-use Rattle.std.specs.Vec.{with_items}
-use Rattle.std.proofs.lemmas.Bool.{le-ltb, lt-ltb}
-use Rattle.vc_types.specs.declared.refusal.Unsound.TheVariants.{IndexRange}
-use Rattle.vc_types.specs.Slices.{all_coefficients, slice_coefficients}
-use Rattle.vc_types.specs.TransformParameters.{parameters_of}
-use Rattle.vc_types.proofs.SliceCounts.{some_across, some_down}
-use Rattle.vc_slice.specs.Coded.{coded_of}
-use Rattle.picture_build.specs.Kept.{PartPicture}
-use Rattle.picture_build.proofs.SeenSlices.{numbered, seen_still, kept_still, seen_more, kept_one_more, index_high, index_low}
-use Rattle.picture_build.proofs.WholeSlices.{whole_decoded}
+use Rattle.std.proofs.Common.{arith, ◌≡◌, Some, length, sym, ap, subst, ◌∙◌}
+use Rattle.std.specs.Prelude.{Err}
+use Rattle.vc_types.specs.Slices.{slice_coefficients, slice_length}
+use Rattle.vc_types.specs.TransformParameters.{Parameters}
+use Rattle.picture_build.specs.Puts.{Puts}
+use Rattle.picture_build.specs.Waiting.{with_runs}
+use Rattle.picture_build.proofs.WaitingRuns.{seen-parameters, seen-in_plan, seen-once, seen-entry, seen-slice, slice-waiting, seen-refused, refused-waiting}
 use Rattle.picture_build.proofs.builder.PictureBuilder.put.Goals as goal
 
-pub returns-then-coded-gt127 : goal.returns-then-coded-gt127
-returns-then-coded-gt127 c =
-    let coded = coded_of c.parts_of-coded.result in
-    let high = index_high (parameters_of c.self.inside.plan) c.args.index coded (lt-ltb 127 c.parts_of-coded.result.index (omega arith)) in
-    record { value = (subst (λ (q : PartPicture). slice_coefficients q.parameters c.args.index c.args.bytes.now ≡ Err IndexRange) c.self.view_is (c.parts_of-coded.ensures.decoded c.args.index ∙ high), refl) }
+pub put-requires-clause-in_plan : goal.put-requires-clause-in_plan
+put-requires-clause-in_plan c =
+    let s = c.self.inside in
+    seen-in_plan s.placed s.runs s.came.items c.self.invariant c.args.self.now c.self.view_is c.args.index c.requires.in_plan c.requires.once
 
-pub put_blocks-requires-clause-room : goal.put_blocks-requires-clause-room
-put_blocks-requires-clause-room c = λ k.
-    let same = ap length c.deref_mut.ensures.value in
-    let room = c.self.invariant.largest k c.args.index (numbered (parameters_of c.self.inside.plan) (some_across c.self.inside.plan.slices_x c.self.inside.plan.slices_y c.self.inside.plan.slices) (some_down c.self.inside.plan.slices_x c.self.inside.plan.slices_y c.self.inside.plan.slices) c.self.inside.came.items c.self.inside.y c.self.inside.c1 c.self.inside.c2 (length c.self.inside.numbers.items) c.self.invariant c.args.self.now c.self.view_is c.args.index c.requires.in_plan c.requires.once) in
-    omega (arith, same, room)
+pub put-requires-clause-once : goal.put-requires-clause-once
+put-requires-clause-once c =
+    let s = c.self.inside in
+    seen-once s.placed s.runs s.came.items c.self.invariant c.args.self.now c.self.view_is c.args.index c.requires.in_plan c.requires.once
+
+pub put-requires-clause-whole : goal.put-requires-clause-whole
+put-requires-clause-whole c =
+    let s = c.self.inside in
+    subst (λ (p : Parameters). slice_length p.prefix p.scaler c.args.bytes.now ≡ Some (length c.args.bytes.now))
+    (sym (seen-parameters s.placed s.runs s.came.items c.self.invariant c.args.self.now c.self.view_is)) c.requires.whole
 
 pub invariant_of-self : goal.invariant_of-self
 invariant_of-self c =
-    let p = (parameters_of c.self.inside.plan) in
-    let coded = coded_of c.parts_of-coded.result in
-    let s = all_coefficients p c.args.index coded in
-    let decoded = index_low p c.args.index coded (le-ltb 127 c.parts_of-coded.result.index (omega arith)) c.in-Ok.ensures.sound in
-    let sound = whole_decoded p c.args.index s coded decoded in
-    kept_one_more (parameters_of c.self.inside.plan) (some_across c.self.inside.plan.slices_x c.self.inside.plan.slices_y c.self.inside.plan.slices) (some_down c.self.inside.plan.slices_x c.self.inside.plan.slices_y c.self.inside.plan.slices) c.self.inside.came.items c.self.inside.y c.self.inside.c1 c.self.inside.c2 (length c.self.inside.numbers.items) c.self.invariant c.args.self.now c.self.view_is c.args.index c.requires.in_plan c.requires.once c.put_blocks.new.y c.put_blocks.new.c1 c.put_blocks.new.c2 s sound c.in-Ok.ensures.filled.0 c.in-Ok.ensures.filled.1 c.in-Ok.ensures.filled.2 (length (with_items c.self.inside.numbers c.put_blocks.new.numbers).items) (sym (with_items c.self.inside.numbers c.put_blocks.new.numbers).ok.0 ∙ c.self.inside.numbers.ok.0)
+    let s = c.self.inside in
+    let put = c.in-Ok.ensures.value in
+    slice-waiting s.placed s.runs s.came.items c.self.invariant c.args.self.now c.self.view_is c.args.index c.requires.in_plan c.requires.once put.0 c.put.new.self put.2
 
 pub returns-in-Ok : goal.returns-in-Ok
 returns-in-Ok c =
-    let p = (parameters_of c.self.inside.plan) in
-    let coded = coded_of c.parts_of-coded.result in
-    let s = all_coefficients p c.args.index coded in
-    let decoded = index_low p c.args.index coded (le-ltb 127 c.parts_of-coded.result.index (omega arith)) c.in-Ok.ensures.sound in
-    let sound = whole_decoded p c.args.index s coded decoded in
+    let s = c.self.inside in
+    let put = c.in-Ok.ensures.value in
     record {
       value = (
-        s,
-        subst (λ (q : PartPicture). slice_coefficients q.parameters c.args.index c.args.bytes.now ≡ Ok s) c.self.view_is (c.parts_of-coded.ensures.decoded c.args.index ∙ decoded),
-        seen_more (parameters_of c.self.inside.plan) (some_across c.self.inside.plan.slices_x c.self.inside.plan.slices_y c.self.inside.plan.slices) (some_down c.self.inside.plan.slices_x c.self.inside.plan.slices_y c.self.inside.plan.slices) c.self.inside.came.items c.self.inside.y c.self.inside.c1 c.self.inside.c2 (length c.self.inside.numbers.items) c.self.invariant c.args.self.now c.self.view_is c.args.index c.requires.in_plan c.requires.once c.put_blocks.new.y c.put_blocks.new.c1 c.put_blocks.new.c2 s sound c.in-Ok.ensures.filled.0 c.in-Ok.ensures.filled.1 c.in-Ok.ensures.filled.2 (length (with_items c.self.inside.numbers c.put_blocks.new.numbers).items) (sym (with_items c.self.inside.numbers c.put_blocks.new.numbers).ok.0 ∙ c.self.inside.numbers.ok.0),
+        put.0,
+        ap (λ (p : Parameters). slice_coefficients p c.args.index c.args.bytes.now) (sym (seen-parameters s.placed s.runs s.came.items c.self.invariant c.args.self.now c.self.view_is)) ∙ put.1,
+        seen-slice s.placed s.runs s.came.items c.self.invariant c.args.self.now c.self.view_is c.args.index c.requires.in_plan c.requires.once put.0 c.put.new.self put.2,
       );
     }
 
 pub invariant_of-self-in-Err : goal.invariant_of-self-in-Err
-invariant_of-self-in-Err c = kept_still (parameters_of c.self.inside.plan) (some_across c.self.inside.plan.slices_x c.self.inside.plan.slices_y c.self.inside.plan.slices) (some_down c.self.inside.plan.slices_x c.self.inside.plan.slices_y c.self.inside.plan.slices) c.self.inside.came.items c.self.inside.y c.self.inside.c1 c.self.inside.c2 (length c.self.inside.numbers.items) c.self.invariant c.args.self.now c.self.view_is c.args.index c.requires.in_plan c.requires.once c.put_blocks.new.y c.put_blocks.new.c1 c.put_blocks.new.c2 c.put_blocks.ensures.y c.put_blocks.ensures.c1 c.put_blocks.ensures.c2 (length (with_items c.self.inside.numbers c.put_blocks.new.numbers).items) (sym (with_items c.self.inside.numbers c.put_blocks.new.numbers).ok.0 ∙ c.self.inside.numbers.ok.0)
+invariant_of-self-in-Err c =
+    let s = c.self.inside in
+    refused-waiting s.placed s.runs s.came.items c.self.invariant c.args.self.now c.self.view_is c.args.index c.requires.in_plan c.requires.once
+    (slice_coefficients s.placed.parameters c.args.index c.args.bytes.now) c.put.new.self c.in-Err.why c.in-Err.ensures.value
 
 pub returns-in-Err : goal.returns-in-Err
-returns-in-Err c = record { value = seen_still (parameters_of c.self.inside.plan) (some_across c.self.inside.plan.slices_x c.self.inside.plan.slices_y c.self.inside.plan.slices) (some_down c.self.inside.plan.slices_x c.self.inside.plan.slices_y c.self.inside.plan.slices) c.self.inside.came.items c.self.inside.y c.self.inside.c1 c.self.inside.c2 (length c.self.inside.numbers.items) c.self.invariant c.args.self.now c.self.view_is c.args.index c.requires.in_plan c.requires.once c.put_blocks.new.y c.put_blocks.new.c1 c.put_blocks.new.c2 c.put_blocks.ensures.y c.put_blocks.ensures.c1 c.put_blocks.ensures.c2 (length (with_items c.self.inside.numbers c.put_blocks.new.numbers).items) (sym (with_items c.self.inside.numbers c.put_blocks.new.numbers).ok.0 ∙ c.self.inside.numbers.ok.0) }
+returns-in-Err c =
+    let s = c.self.inside in
+    record {
+      value = subst (λ (p : Parameters). Puts (slice_coefficients p c.args.index c.args.bytes.now) c.args.index c.args.self.now (with_runs c.put.new.self s.runs) (Err c.in-Err.why))
+          (seen-parameters s.placed s.runs s.came.items c.self.invariant c.args.self.now c.self.view_is)
+          (seen-refused s.placed s.runs s.came.items c.self.invariant c.args.self.now c.self.view_is c.args.index c.requires.in_plan c.requires.once
+          (slice_coefficients s.placed.parameters c.args.index c.args.bytes.now) c.put.new.self c.in-Err.why c.in-Err.ensures.value);
+    }
+
+pub index_mut-requires : goal.index_mut-requires
+index_mut-requires c =
+    let s = c.self.inside in
+    let entry = seen-entry s.placed s.runs s.came.items c.self.invariant c.args.self.now c.self.view_is c.args.index c.requires.in_plan c.requires.once in
+    omega (arith, entry, s.came.ok.0)

@@ -1,20 +1,18 @@
-use Rattle.std.proofs.Common.{sym, ap, subst, ◌∙◌, length}
-use Rattle.vc_types.specs.TransformParameters.{parameters_of}
-use Rattle.picture_build.specs.Kept.{PartPicture, no_slices, IsKept}
-use Rattle.picture_build.proofs.KeptSlices.{nothing_kept, kept_none}
-use Rattle.picture_build.proofs.SeenSlices.{seen}
+use Rattle.std.proofs.Common.{ap, ◌∙◌}
+use Rattle.vc_types.specs.TransformParameters.{Parameters}
+use Rattle.picture_build.specs.Kept.{no_slices}
+use Rattle.picture_build.proofs.WaitingRuns.{waiting-begun, seen-begun, seen-parameters}
 use Rattle.picture_build.proofs.builder.PictureBuilder.restart.Goals as goal
 
 pub invariant_of-self : goal.invariant_of-self
 invariant_of-self c =
-    let kept = c.self.invariant in
-    subst (λ came. IsKept (parameters_of c.self.inside.plan) came c.restart.new.self c.restart-2.new.self c.restart-3.new.self (length c.self.inside.numbers.items)) (sym (c.fill.ensures.items (λ y e. e)))
-    (kept_none (parameters_of c.self.inside.plan) c.restart.new.self c.restart-2.new.self c.restart-3.new.self (length c.self.inside.numbers.items) c.self.inside.came.len (c.self.inside.came.ok.0 ∙ kept.entries)
-    (c.restart.ensures.length ∙ kept.y_cells) (c.restart-2.ensures.length ∙ kept.c1_cells) (c.restart-3.ensures.length ∙ kept.c2_cells) kept.largest)
+    let s = c.self.inside in
+    waiting-begun s.placed.parameters c.restart.new.self c.clear.new.self _ s.came.len c.restart.ensures.value c.clear.ensures (c.fill.ensures.items (λ y e. e)) (s.came.ok.0 ∙ c.self.invariant.entries)
 
 pub returns : goal.returns
-returns c = record {
-  value = ap (λ came. seen (parameters_of c.self.inside.plan) came c.restart.new.self c.restart-2.new.self c.restart-3.new.self) (c.fill.ensures.items (λ y e. e))
-      ∙ ap (λ slices. record { parameters = (parameters_of c.self.inside.plan); slices = slices }) (nothing_kept (parameters_of c.self.inside.plan) c.restart.new.self c.restart-2.new.self c.restart-3.new.self c.self.inside.came.len)
-      ∙ ap (λ (q : PartPicture). no_slices q.parameters) c.self.view_is;
-}
+returns c =
+    let s = c.self.inside in
+    record {
+      value = seen-begun s.placed.parameters c.restart.new.self c.clear.new.self _ s.came.len c.restart.ensures.value c.clear.ensures (c.fill.ensures.items (λ y e. e)) (s.came.ok.0 ∙ c.self.invariant.entries)
+          ∙ ap (λ (p : Parameters). no_slices p) (seen-parameters s.placed s.runs s.came.items c.self.invariant c.args.self.now c.self.view_is);
+    }

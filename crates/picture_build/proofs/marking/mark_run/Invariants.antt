@@ -1,6 +1,6 @@
 use Rattle.std.proofs.Common.{◌≡◌, ◌+◌, ◌<◌, ◌≤◌, ◌⊎◌, ℕ, true, false, length}
 use Rattle.std.specs.Prelude.{slice_index_or}
-use Rattle.picture_build.proofs.builder.mark_run.Given as goal
+use Rattle.picture_build.proofs.marking.mark_run.Given as goal
 
 abbrev pub invariant-loop-k : goal.invariant-loop-k
 invariant-loop-k l = record {

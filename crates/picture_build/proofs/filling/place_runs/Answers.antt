@@ -1,0 +1,46 @@
+use Rattle.std.proofs.Common.{◌++◌, ◌∷◌, [], List, take, arith, sym, ap, subst, ◌∙◌}
+use Rattle.std.proofs.lemmas.List.{take_all, take_more}
+use Rattle.vc_types.specs.TransformParameters.{parameters_of}
+use Rattle.picture_build.specs.declared.waiting.WaitingRun.{WaitingRun}
+use Rattle.picture_build.specs.Waiting.{FillsRuns, IsRunOf}
+use Rattle.picture_build.proofs.WaitingRuns.{fills-length, fills-more, fills-none}
+use Rattle.picture_build.proofs.filling.place_runs.Goals as goal
+
+pub loop-waiting-init : goal.loop-waiting-init
+loop-waiting-init c = fills-none (parameters_of c.args.plan.now) c.args.c _
+
+pub new-run-requires-clause-run : goal.new-run-requires-clause-run
+new-run-requires-clause-run c =
+    let own = subst (IsRunOf (parameters_of c.args.plan.now)) (sym c.waiting-item.is) (c.requires.runs c.loop-waiting.waiting-index c.waiting-item.result c.loop-waiting-test.true) in
+    own.run
+
+pub new-run-requires-clause-some : goal.new-run-requires-clause-some
+new-run-requires-clause-some c =
+    let own = subst (IsRunOf (parameters_of c.args.plan.now)) (sym c.waiting-item.is) (c.requires.runs c.loop-waiting.waiting-index c.waiting-item.result c.loop-waiting-test.true) in
+    own.some
+
+pub place_run-requires-clause-strip : goal.place_run-requires-clause-strip
+place_run-requires-clause-strip c =
+    let own = subst (IsRunOf (parameters_of c.args.plan.now)) (sym c.waiting-item.is) (c.requires.runs c.loop-waiting.waiting-index c.waiting-item.result c.loop-waiting-test.true) in
+    rw (c.new-run.ensures.plan, c.new-run.ensures.first, c.new-run.ensures.count, c.component.ensures.value) (own.whole c.args.c)
+
+pub place_run-requires-clause-cells : goal.place_run-requires-clause-cells
+place_run-requires-clause-cells c =
+    rw c.new-run.ensures.plan
+    (fills-length (parameters_of c.args.plan.now) c.args.c (take c.loop-waiting.waiting-index c.args.runs.now) c.args.cells.now c.loop-waiting.cells c.loop-waiting.invariant ∙ c.requires.cells)
+
+pub loop-waiting-preserved : goal.loop-waiting-preserved
+loop-waiting-preserved c =
+    let p = parameters_of c.args.plan.now in
+    let runs = c.args.runs.now in
+    let i = c.loop-waiting.waiting-index in
+    let run = c.waiting-item.result in
+    subst (λ (done : List WaitingRun). FillsRuns p c.args.c done c.args.cells.now c.place_run.new.cells)
+    (ap (λ (r : WaitingRun). take i runs ++ r ∷ []) c.waiting-item.is ∙ sym (take_more runs i run c.loop-waiting-test.true))
+    (fills-more p c.args.c (take i runs) run c.args.cells.now c.loop-waiting.cells c.place_run.new.cells c.loop-waiting.invariant
+    (rw (c.new-run.ensures.plan, c.new-run.ensures.first, c.new-run.ensures.count, c.component.ensures.value) at c.place_run.ensures))
+
+pub returns : goal.returns
+returns c =
+    subst (λ (done : List WaitingRun). FillsRuns (parameters_of c.args.plan.now) c.args.c done c.args.cells.now c.loop-waiting.cells)
+    (take_all c.loop-waiting.waiting-index c.args.runs.now (omega arith)) c.loop-waiting.invariant
