@@ -14,7 +14,7 @@ ghost use Rattle.vc_types.specs.SenderSettings.{sending_view};
 use crate::frame_sender::FrameSender;
 use crate::shape::frame_shape;
 use crate::totals::Totals;
-use frame_writer::{FrameReadFault, read_frame};
+use frame_writer::{FrameReadFault, FrameRoom, read_frame};
 use link_outside::Outlet;
 use link_report::Ending;
 use link_sender::Chooser;
@@ -124,11 +124,11 @@ fn send_each<
     ensures input_cause { HasCause (S.faults input.old) (S.faults input.new)
         (result ≡ Err Ending.InputFailed) }
 {
-    let mut bytes = Vec::new(alloc);
+    let mut room = FrameRoom::new(alloc);
     for frame in 0..frames {
-        match read_frame(alloc, input, shape, &mut bytes) {
+        match read_frame(alloc, input, shape, &mut room) {
             Ok(Some(planes)) => match sender.take(rt, &planes, outlet, pace) {
-                Ok(()) => {}
+                Ok(()) => room.keep(planes),
                 Err(ending) => return Err(ending),
             },
             Ok(None) => return Ok(()),

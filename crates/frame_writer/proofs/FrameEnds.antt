@@ -1,12 +1,18 @@
 -- A frame whose planes are taken one after another: whole, or up to the end or a fault of the source.
-use Rattle.std.proofs.Common.{◌≡◌, ℕ, ◌+◌, ◌<◌, ◌≤◌, Bool, true, false, List, ◌++◌, length, take, drop, Option, Result, Err, refl, subst, ap, sym, ◌∙◌, arith}
+use Rattle.std.proofs.Common.{◌≡◌, ℕ, ◌+◌, ◌*◌, ◌<◌, ◌≤◌, Bool, true, false, List, ◌++◌, length, take, drop, Option, Result, Err, refl, subst, ap, sym, ◌∙◌, arith}
+use Rattle.std.specs.Prelude.{IsTrue, nat_le}
+use Rattle.std.proofs.lemmas.Bool.{and_parts, leb-true}
+use Rattle.std.proofs.lemmas.Grind.{common_steps}
 use Rattle.std.proofs.lemmas.List.{length-append}
+use Rattle.std.proofs.Math.Nat.{le-mul_of_pos_right}
 use Rattle.std.proofs.Math.Seq.{take-append_seam, drop-append_seam}
 use Rattle.vc_ports.specs.Reading.{Gave}
 use Rattle.vc_ports.proofs.Given.{Gave-then, GaveAll-then}
 use Rattle.vc_types.specs.declared.shape.Shape.{Shape}
 use Rattle.vc_types.specs.declared.video.Component.TheVariants.{Y, C1}
+use Rattle.vc_types.specs.Limits.{shape_fits}
 use Rattle.vc_types.specs.RawFrames.{is_wide}
+use Rattle.vc_types.specs.Video.{side_fits}
 use Rattle.frame_writer.proofs.ReadBack.{lens}
 use Rattle.frame_writer.specs.FrameBytes.{frame_of_bytes, planes_of_bytes, frame_length, length_in, sample_count, samples_of_bytes}
 use Rattle.frame_writer.specs.Memory.{planes_with}
@@ -15,16 +21,30 @@ use Rattle.frame_writer.specs.Taking.{GaveSamples, GaveFewer, GaveLast, Takes, r
 use Rattle.frame_writer.specs.declared.taking.Short.{Short}
 use Rattle.frame_writer.specs.declared.taking.Short.TheVariants.{End, Failed}
 
-front : (n : ℕ) (first second : List ℕ) → length first ≡ n → take n (first ++ second) ≡ first
+pub front : (n : ℕ) (first second : List ℕ) → length first ≡ n → take n (first ++ second) ≡ first
 front n first second long = ap (λ (k : ℕ). take k (first ++ second)) (sym long) ∙ take-append_seam first second
 
 behind : (n : ℕ) (first second : List ℕ) → length first ≡ n → drop n (first ++ second) ≡ second
 behind n first second long = ap (λ (k : ℕ). drop k (first ++ second)) (sym long) ∙ drop-append_seam first second
 
+pub same_planes : (shape : Shape) {y c1 c2 y_too c1_too c2_too : List ℕ} → y ≡ y_too → c1 ≡ c1_too → c2 ≡ c2_too → planes_with shape y c1 c2 ≡ planes_with shape y_too c1_too c2_too
+same_planes shape same_y same_c1 same_c2 = rw (same_y, same_c1, same_c2) refl
+
 -- what is taken, said by equal numbers
 pub same_takes : {two wide : Bool} {count n : ℕ} (before after : Option (List ℕ)) (samples : List ℕ) (answer : Result (Unit {0}) Short) → two ≡ wide → count ≡ n → Takes two count before after samples answer → Takes wide n before after samples answer
 same_takes {two = two} {n = n} before after samples answer same_width same_count takes =
     subst (λ (w : Bool). Takes w n before after samples answer) same_width (subst (λ (m : ℕ). Takes two m before after samples answer) same_count takes)
+
+-- ---- a luma plane has samples
+
+some_side : (side : ℕ) → IsTrue (side_fits side) → 1 ≤ side
+some_side side fits = leb-true 1 side (and_parts (nat_le 1 side) (nat_le side 8192) fits).0
+
+product : (a b : ℕ) → 1 ≤ a → 1 ≤ b → 0 < a * b
+product a b h k = let grows : a ≤ a * b = le-mul_of_pos_right a k in omega (arith, grows, h)
+
+pub some_samples : (shape : Shape) → IsTrue (shape_fits shape) → 0 < sample_count shape Y
+some_samples shape fits = grind (arith, common_steps, and_parts, product, some_side)
 
 -- ---- a plane that is short, behind the bytes of the planes before it
 module _ (shape : Shape) (before mid after : Option (List ℕ)) (front : List ℕ) (count : ℕ) (gave : Gave before mid front) (within : length front + length_in (is_wide shape) count ≤ frame_length shape) where

@@ -1,6 +1,7 @@
 -- Samples that are taken, one piece after another.
 use Rattle.std.proofs.Common.{◌≡◌, ℕ, ◌+◌, ◌-◌, ◌*◌, ◌≤◌, Bool, true, false, List, [], ◌∷◌, ◌++◌, length, take, Option, refl, ap, sym, ◌∙◌, arith}
 use Rattle.std.proofs.lemmas.List.{length-append, length-take-le}
+use Rattle.std.proofs.Math.Seq.{take-append-add, take-append_seam}
 use Rattle.vc_ports.specs.Filling.{Fills}
 use Rattle.vc_ports.specs.Reading.{Gave}
 use Rattle.vc_ports.specs.declared.whole.Filled.TheVariants.{End, Failed}
@@ -24,21 +25,14 @@ length_in-add : (two : Bool) (first second : ℕ) → length_in two (first + sec
 length_in-add true first second = omega arith
 length_in-add false first second = refl
 
-no_samples : (samples : List ℕ) → length samples ≡ 0 → samples ≡ []
-no_samples [] none = refl
-no_samples (x ∷ samples) none = absurd (omega (arith, none))
-
 -- none are taken yet
-pub took_none : (two : Bool) (before : Option (List ℕ)) (samples : List ℕ) (len : ℕ) → len ≡ length samples → len ≡ 0 → GaveSamples two len before before samples
+pub took_none : (two : Bool) (before : Option (List ℕ)) → GaveSamples two 0 before before []
 unfolding samples_of_bytes
-took_none two before samples len long none = rw (none, no_samples samples (sym long ∙ none)) (begin two) where
-  begin : (wide : Bool) → GaveSamples wide 0 before before []
-  begin true = record { bytes = []; whole = refl; gave = Gave-none before; samples_are = refl }
-  begin false = record { bytes = []; whole = refl; gave = Gave-none before; samples_are = refl }
+took_none true before = record { bytes = []; whole = refl; gave = Gave-none before; samples_are = refl }
+took_none false before = record { bytes = []; whole = refl; gave = Gave-none before; samples_are = refl }
 
 module _ (two : Bool) (at more : ℕ) (before mid after : Option (List ℕ)) (samples piece : List ℕ) (took : GaveSamples two at before mid samples) (long : length piece ≡ length_in two more) where
-  -- a piece more
-  pub took_more : Gave mid after piece → GaveSamples two (at + more) before after (samples ++ samples_of_bytes two piece)
+  took_more : Gave mid after piece → GaveSamples two (at + more) before after (samples ++ samples_of_bytes two piece)
   took_more gave = record {
     bytes = took.bytes ++ piece;
     whole = length-append took.bytes piece ∙ omega (arith, took.whole, long, length_in-add two at more);
@@ -47,6 +41,15 @@ module _ (two : Bool) (at more : ℕ) (before mid after : Option (List ℕ)) (sa
         ap (λ (l : List ℕ). l ++ samples_of_bytes two piece) took.samples_are
         ∙ sym (samples_of_bytes-append two at took.bytes piece took.whole);
   }
+
+  -- a piece more, before the place of the samples that aren't taken yet
+  pub took_next : (next rest : List ℕ) → length samples ≡ at → length next ≡ more → next ≡ samples_of_bytes two piece → Gave mid after piece → GaveSamples two (at + length next) before after (take (at + length next) (samples ++ (next ++ rest)))
+  took_next next rest front same of_piece gave =
+      let taken : take (at + length next) (samples ++ (next ++ rest)) ≡ samples ++ next =
+      ap (λ (n : ℕ). take (n + length next) (samples ++ (next ++ rest))) (sym front)
+      ∙ take-append-add samples (next ++ rest) (length next)
+      ∙ ap (λ (l : List ℕ). samples ++ l) (take-append_seam next rest) in
+      rw (taken, same, of_piece) (took_more gave)
 
   module _ (count n : ℕ) (within : at + more ≤ count) where
     longest : length_in two at + length_in two more ≤ length_in two count

@@ -1,6 +1,5 @@
 -- The memory that the planes of a frame are taken into.
-use Rattle.std.specs.Prelude.{◌≡◌, ◌≤◌, ℕ, List, vec_len, vec_capacity}
-use Rattle.std.specs.Global.{Vec}
+use Rattle.std.specs.Prelude.{◌≡◌, ℕ, List, vec_len}
 use Rattle.frame_writer.specs.declared.memory.PlaneMemory.{PlaneMemory}
 use Rattle.frame_writer.specs.FrameBytes.{sample_count}
 use Rattle.vc_types.specs.declared.shape.Shape.{Shape}
@@ -9,16 +8,6 @@ use Rattle.vc_types.specs.declared.video.Component.TheVariants.{Y, C1, C2}
 use Rattle.vc_types.specs.Planes.{Planes}
 use Rattle.vc_types.specs.Rasters.{Raster}
 use Rattle.vc_types.specs.Subbands.{plane_width, plane_height}
-
--- no samples, and room for those of a component's plane
-pub record IsRoomFor (shape : Shape) (c : Component) (samples : Vec ℕ) : Type 0 where
-  pub none : vec_len samples ≡ 0
-  pub room : sample_count shape c ≤ vec_capacity samples
-
-pub record HasRoomForPlanes (shape : Shape) (m : PlaneMemory) : Type 0 where
-  pub y : IsRoomFor shape Y m.y
-  pub c1 : IsRoomFor shape C1 m.c1
-  pub c2 : IsRoomFor shape C2 m.c2
 
 -- as many samples as the planes of the shape have
 pub record IsFilledFor (shape : Shape) (m : PlaneMemory) : Type 0 where

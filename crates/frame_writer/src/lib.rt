@@ -18,5 +18,5 @@ pub use fault::FrameFault;
 pub use frame::write_frame;
 pub use laws::frames_are_their_bytes;
 pub use read_fault::FrameReadFault;
-pub use reading::read_frame;
+pub use reading::{FrameRoom, read_frame};
 pub use width::is_wide;

@@ -1,6 +1,6 @@
-ghost use Rattle.std.specs.Prelude.{◌≡◌, ◌^◌, ◌<◌, IsTrue, IfOk};
+ghost use Rattle.std.specs.Prelude.{◌≡◌, IsTrue, IfOk, vec_len};
 ghost use Rattle.frame_writer.specs.FrameBytes.{sample_count};
-ghost use Rattle.frame_writer.specs.Memory.{HasRoomForPlanes, IsFilledFor, planes_with};
+ghost use Rattle.frame_writer.specs.Memory.{IsFilledFor, planes_with};
 ghost use Rattle.vc_types.specs.declared.video.Component.TheVariants.{Y, C1};
 ghost use Rattle.vc_types.specs.Limits.{shape_fits};
 ghost use Rattle.vc_types.specs.Planes.{planes_in};
@@ -17,16 +17,37 @@ pub(crate) struct PlaneMemory {
 }
 
 impl PlaneMemory {
-    /// Room for the planes of a shape.
-    pub(crate) fn new(alloc: Global, shape: &Shape) -> Result<PlaneMemory, AllocError>
+    /// None yet.
+    pub(crate) fn new(alloc: Global) -> PlaneMemory {
+        PlaneMemory {
+            y: Vec::new(alloc),
+            c1: Vec::new(alloc),
+            c2: Vec::new(alloc),
+        }
+    }
+
+    /// That of planes that are done with.
+    pub(crate) fn of(planes: [Plane; 3]) -> PlaneMemory {
+        let [y, c1, c2] = planes;
+        PlaneMemory {
+            y: y.into_samples(),
+            c1: c1.into_samples(),
+            c2: c2.into_samples(),
+        }
+    }
+
+    /// As many samples as the planes of a shape have, which are anything. A list that hasn't so many is
+    /// replaced.
+    pub(crate) fn fit(self, alloc: Global, shape: &Shape) -> Result<PlaneMemory, AllocError>
         requires { IsTrue (shape_fits shape.now) }
-        ensures { IfOk result (HasRoomForPlanes shape.now) }
+        ensures { IfOk result (IsFilledFor shape.now) }
     {
+        let PlaneMemory { y, c1, c2 } = self;
         let colour = colour_count(shape);
         Ok(PlaneMemory {
-            y: Vec::with_capacity(alloc, luma_count(shape))?,
-            c1: Vec::with_capacity(alloc, colour)?,
-            c2: Vec::with_capacity(alloc, colour)?,
+            y: fit(alloc, y, luma_count(shape))?,
+            c1: fit(alloc, c1, colour)?,
+            c2: fit(alloc, c2, colour)?,
         })
     }
 
@@ -44,21 +65,29 @@ impl PlaneMemory {
     }
 }
 
-/// How many samples the luma plane has.
-pub(crate) fn luma_count(shape: &Shape) -> usize
+// So many samples, which are anything: these, if they are so many.
+fn fit(alloc: Global, samples: Vec<u16>, count: usize) -> Result<Vec<u16>, AllocError>
+    ensures { IfOk result (λ samples. vec_len samples ≡ count) }
+{
+    if samples.len() == count {
+        Ok(samples)
+    } else {
+        vec![in alloc; 0; count]
+    }
+}
+
+// How many samples the luma plane has.
+fn luma_count(shape: &Shape) -> usize
     requires { IsTrue (shape_fits shape.now) }
-    ensures value { result ≡ sample_count shape.now Y }
-    ensures some { 0 < result }
-    ensures small { result < 2 ^ 62 }
+    ensures { result ≡ sample_count shape.now Y }
 {
     shape.luma_width as usize * shape.luma_height as usize
 }
 
-/// How many samples a colour plane has.
-pub(crate) fn colour_count(shape: &Shape) -> usize
+// How many samples a colour plane has.
+fn colour_count(shape: &Shape) -> usize
     requires { IsTrue (shape_fits shape.now) }
-    ensures value { result ≡ sample_count shape.now C1 }
-    ensures small { result < 2 ^ 62 }
+    ensures { result ≡ sample_count shape.now C1 }
 {
     shape.colour_width as usize * shape.colour_height as usize
 }

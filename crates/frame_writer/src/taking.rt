@@ -1,6 +1,4 @@
-ghost use Rattle.std.specs.Prelude.{◌≡◌, ◌+◌, ◌*◌, ◌^◌, ◌<◌, ◌≤◌, ◌++◌};
-ghost use Rattle.std.specs.Prelude.{Err, OnOk, length, vec_capacity, vec_len};
-ghost use Rattle.frame_writer.specs.FrameBytes.{length_in, samples_of_bytes};
+ghost use Rattle.std.specs.Prelude.{◌≡◌, ◌*◌, ◌^◌, ◌<◌, ◌≤◌, Err, length};
 ghost use Rattle.frame_writer.specs.Taking.{Takes};
 ghost use Rattle.frame_writer.specs.declared.taking.TheConstants.{PIECE};
 ghost use Rattle.vc_ports.specs.Faults.{HasCause};
@@ -21,46 +19,31 @@ pub(crate) enum Short {
     Failed,
 }
 
-/// Takes so many samples of a plane, for which there is room, piece by piece, by means of a buffer of two
-/// bytes for each sample of a piece.
+/// Takes the samples of a plane, in place of those that are there, piece by piece, by means of a buffer of
+/// two bytes for each sample of a piece.
 pub(crate) fn take_plane<S: Source>(
     source: &mut S,
     buffer: &mut [u8],
-    samples: &mut Vec<u16>,
-    count: usize,
+    samples: &mut [u16],
     two: bool,
 ) -> Result<(), Short>
     requires buffer { 2 * PIECE ≤ length buffer.old }
-    requires none { vec_len samples.old ≡ 0 }
-    requires room { count ≤ vec_capacity samples.old }
-    requires small { count < 2 ^ 62 }
-    ensures bytes { Takes two count (S.left source.old) (S.left source.new) samples.new.items result }
-    ensures filled { OnOk result (vec_len samples.new ≡ count) }
+    requires small { length samples.old < 2 ^ 62 }
+    ensures bytes { Takes two (length samples.old)
+        (S.left source.old) (S.left source.new) samples.new result }
     ensures cause { HasCause (S.faults source.old) (S.faults source.new) (result ≡ Err Short.Failed) }
 {
-    'pieces: while samples.len() < count {
-        let at = samples.len();
-        let more = (count - at).min(PIECE);
-        let (piece, _) = buffer.split_at_mut(byte_count(more, two));
+    let mut at = 0;
+    'pieces: while at < samples.len() {
+        let (_, rest) = samples.split_at_mut(at);
+        let (next, _) = rest.split_at_mut(rest.len().min(PIECE));
+        let (piece, _) = buffer.split_at_mut(byte_count(next.len(), two));
         match fill(source, piece) {
-            Filled::Whole => add_samples(samples, piece, more, two),
+            Filled::Whole => take_samples(next, piece, two),
             Filled::End(len) => return Err(Short::End(byte_count(at, two) + len)),
             Filled::Failed(_) => return Err(Short::Failed),
         }
+        at += next.len();
     }
     Ok(())
-}
-
-// Adds so many samples, for which there is room, by their bytes.
-fn add_samples(samples: &mut Vec<u16>, bytes: &[u8], more: usize, two: bool)
-    requires room { vec_len samples.old + more ≤ vec_capacity samples.old }
-    requires bytes { length bytes.now ≡ length_in two more }
-    ensures items { samples.new.items ≡ samples.old.items ++ samples_of_bytes two bytes.now }
-    ensures len { vec_len samples.new ≡ vec_len samples.old + more }
-    ensures capacity { vec_capacity samples.old ≤ vec_capacity samples.new }
-{
-    let at = samples.len();
-    samples.resize(at + more, 0).unwrap();
-    let (_, added) = samples.split_at_mut(at);
-    take_samples(added, bytes, two);
 }

@@ -1,5 +1,4 @@
 use Rattle.std.proofs.Common.{ℕ, ◌+◌, ◌∙◌, ◌++◌, ◌∷◌, ◌^◌, [], List, length, Err, subst, sym, refl, arith, inr, length-append, ◌<◌}
-use Rattle.std.proofs.lemmas.Grind.{common_steps}
 use Rattle.frame_writer.specs.FrameBytes.{frame_length}
 use Rattle.frame_writer.specs.Reading.{GaveFrame, ReadsFrame}
 use Rattle.cmd_send.specs.Steps.{FailsAt, IsBehindFrames, FrameIsTaken}
@@ -50,7 +49,17 @@ returns-in-Err-take-clause-value g c =
     failed_at laws s c.args.frames at.0 _ _ _ _ _ at.3 room frame gave c.in-Err-take.ending (value at.0 (omega (arith, at.1, c.loop-frame-test.true, c.ranges.frames.fits)) at.2)
 
 pub returns-in-Err-take-clause-input_cause : goal.returns-in-Err-take-clause-input_cause
-returns-in-Err-take-clause-input_cause g c = grind (arith, common_steps, not_read)
+returns-in-Err-take-clause-input_cause g c =
+    let at = c.loop-frame.invariant.sent in
+    let s = sending_view c.loop-frame.sender.sender.settings in
+    let went = g.O.Outlet.carried c.loop-frame.outlet c.take.new.outlet in
+    let broke = g.O.Outlet.broke c.loop-frame.outlet c.take.new.outlet in
+    let behind : IsBehindFrames s at.0 c.loop-frame.sender = subst (λ (st : SendSettings). IsBehindFrames (sending_view st) at.0 c.loop-frame.sender) (sym c.loop-frame.invariant.settings) at.2 in
+    let fails = c.in-Err-take.ensures.value at.0 (omega (arith, at.1, c.loop-frame-test.true, c.ranges.frames.fits)) behind in
+    record {
+      later = omega (arith, c.loop-frame.invariant.input_later, c.in-Ok-Some.ensures.cause.later);
+      rose = λ e. absurd (not_read s at.0 (planes_in c.in-Ok-Some.planes) went broke c.in-Err-take.ending fails e);
+    }
 
 pub returns-in-Err-clause-value : goal.returns-in-Err-clause-value
 returns-in-Err-clause-value g c =
