@@ -1,4 +1,6 @@
 //! Rows of bits that are read and written.
+ghost use Rattle.std.specs.Prelude.{◌≤◌, ◌<◌, ◌^◌, IsTrue};
+
 use crate::codes::{add_at_once, add_signed};
 use crate::said::Said;
 use crate::words::{bytes_of, natural, parted};
@@ -136,11 +138,23 @@ pub(crate) fn read_block(parts: &[NamedBytes], given: &str, said: &mut Said) -> 
     }
 }
 
+// Whether a number has so many bits at most.
+fn has_bits(number: u64, count: u32) -> bool
+    requires { count ≤ 32 }
+    ensures { IsTrue result → number < 2 ^ count }
+{
+    number < 1 << count
+}
+
 fn write_bits(w: &mut BitWriter, number: u32, count: u32) -> Result<(), Bad> {
-    if count > 32 || u64::from(number) >= 1 << count {
+    if count > 32 {
         return Err(Bad::NoRow);
     }
-    w.bits(u64::from(number), count)?;
+    let number = u64::from(number);
+    if !has_bits(number, count) {
+        return Err(Bad::NoRow);
+    }
+    w.bits(number, count)?;
     Ok(())
 }
 

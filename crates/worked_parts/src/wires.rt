@@ -137,21 +137,25 @@ fn add_all_kept(wire: &MemWire, said: &mut Said) {
     add_kept("more", wire.sent(1), said);
 }
 
+fn exchange_and_keep(wire: &mut MemWire, datagram: &[u8], said: &mut Said) -> Result<(), Bad> {
+    exchange(wire, datagram, said)?;
+    add_all_kept(wire, said);
+    Ok(())
+}
+
 /// What an exchange over a wire in memory comes to, and what the wire keeps of it.
 pub(crate) fn memory_wire(parts: &[NamedBytes], given: &str, said: &mut Said) -> Result<(), Bad> {
     let (front, rest) = parted(given);
     let (coming, sent) = parted(rest);
-    let mut wire = memory(said.alloc(), parts, front, coming)?;
     let sent = bytes_of(said.alloc(), parts, sent)?;
-    exchange(&mut wire, sent.as_slice(), said)?;
-    add_all_kept(&wire, said);
-    Ok(())
+    let mut wire = memory(said.alloc(), parts, front, coming)?;
+    exchange_and_keep(&mut wire, sent.as_slice(), said)
 }
 
 /// What an exchange over a wire that never fails comes to.
 pub(crate) fn plain_wire(parts: &[NamedBytes], given: &str, said: &mut Said) -> Result<(), Bad> {
     let (coming, sent) = parted(given);
-    let mut wire = PlainWire::new(datagrams(said.alloc(), parts, coming)?);
     let sent = bytes_of(said.alloc(), parts, sent)?;
+    let mut wire = PlainWire::new(datagrams(said.alloc(), parts, coming)?);
     exchange(&mut wire, sent.as_slice(), said)
 }
