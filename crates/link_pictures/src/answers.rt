@@ -26,9 +26,11 @@ use vc_types::{NoMemory, Plan, Plane};
 /// The answers to slices of pictures that aren't released. Contracts see, of each picture that has
 /// one, its number, its parameters and its answers. A picture reserves 8 bytes a coefficient from its
 /// first answer on, half of which stay untouched until a coefficient may not fit 32 bits, and keeps the
-/// strips of its runs until it is transformed. The memory of one picture is kept for the next of the same
-/// plan, that of its strips for other runs. Where there are threads, a picture is transformed
-/// in four parts side by side, by join; otherwise in turn. After `NoMemory` nothing is promised of them.
+/// strips of its runs until they come to their places. The memory of one picture is kept for the next of the
+/// same plan, that of its strips for other runs. Where there are threads, runs come to their places once many
+/// wait, and a picture is transformed in four parts, both side by side, by join. Where there are none, all runs
+/// wait until their picture is transformed, and that is in turn; a receiver without threads has no runs. After
+/// `NoMemory` nothing is promised of them.
 #[derive(Drop)]
 pub struct Answers<H> {
     alloc: Global,
@@ -93,15 +95,6 @@ impl<H> Answers<H> {
         Ok(())
     }
 
-    /// Keeps the answers to the slices of a run that have none, as `keep` does. Memory for another strip is
-    /// given, where there is some.
-    pub fn keep_run(&mut self, done: RunDone) -> Result<Option<Vec<i32>>, NoMemory>
-        ensures value { OnOk result (self.new ≡ keeps_new self.old (answered_run done)) }
-    {
-        let place = self.place_for(&done.job)?;
-        self.pictures[place].keep_run(done)
-    }
-
     /// Decodes slice number `k` of a run, if it has no answer, and keeps its answer, as `keep` does.
     pub fn make_slice(&mut self, job: &RunJob, k: usize) -> Result<(), NoMemory>
         requires { k < length job.now.slices.items }
@@ -161,6 +154,15 @@ impl<H> Answers<H> {
 }
 
 impl<H: Threads + Copy> Answers<H> {
+    /// Keeps the answers to the slices of a run that have none, as `keep` does. Memory for another strip is
+    /// given, where there is some.
+    pub fn keep_run(&mut self, done: RunDone) -> Result<Option<Vec<i32>>, NoMemory>
+        ensures value { OnOk result (self.new ≡ keeps_new self.old (answered_run done)) }
+    {
+        let place = self.place_for(&done.job)?;
+        self.pictures[place].keep_run(self.threads, done)
+    }
+
     /// The planes of a picture whose book is complete: by the answers to its slices, and of the
     /// others by what their bytes decode to. There are none where a slice is unsound. The
     /// picture's answers are forgotten, also where its book isn't complete.

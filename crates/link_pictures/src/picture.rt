@@ -12,6 +12,7 @@ ghost use Rattle.picture_build.specs.Kept.{no_slices};
 use picture_build::{NotPut, PictureBuilder};
 use std::alloc::Global;
 use std::marker::Model;
+use std::thread::Threads;
 use vc_slice::{RunAnswer, RunDone, RunJob, SliceCoeffs, SliceDone, Strip, decode};
 use vc_types::{NoMemory, Plan, Unsound};
 
@@ -101,14 +102,20 @@ impl PictureSlices {
     }
 
     /// Keeps the answers to the slices of a run that have none, if they are by the picture's own
-    /// parameters. Memory for another strip is given, where there is some.
-    pub(crate) fn keep_run(&mut self, done: RunDone) -> Result<Option<Vec<i32>>, NoMemory>
+    /// parameters. Memory for another strip is given, where there is some. Where there are threads, runs come
+    /// to their places once many wait.
+    pub(crate) fn keep_run<H: Threads + Copy>(
+        &mut self,
+        threads: Option<H>,
+        done: RunDone,
+    ) -> Result<Option<Vec<i32>>, NoMemory>
         ensures value { OnOk result (self.new ≡ takes_new self.old (answered_run done)) }
     {
         let RunDone { job, answer } = done;
         match answer {
             RunAnswer::Together(strip) => {
                 self.keep_strip(&job, strip)?;
+                self.place_many(threads);
                 Ok(self.spare_room())
             }
             RunAnswer::Apart(answers) => {
@@ -204,6 +211,15 @@ impl PictureSlices {
             self.make_slice(job, k)?;
         }
         Ok(())
+    }
+
+    // Puts the runs that wait into their places, where there are threads and many wait.
+    fn place_many<H: Threads + Copy>(&mut self, threads: Option<H>)
+        ensures unchanged { self.new ≡ self.old }
+    {
+        if let Some(rt) = threads {
+            self.builder.place_many(&rt);
+        }
     }
 
     // Memory for another strip, where there is some.

@@ -15,6 +15,7 @@ ghost use Rattle.link_window.specs.Views.{releasable_of};
 use crate::reception::Reception;
 use link_slices::runs_of;
 use link_window::Released;
+use std::thread::Threads;
 use vc_slice::{Places, RunDone, RunJob, RunLoad, SliceJob, decode_run};
 use vc_types::NoMemory;
 
@@ -25,7 +26,7 @@ const MOST_ROOMS: usize = 64;
 const FEW_OUT: usize = 24;
 
 #[tactic(auto, using(crate::proofs::Asked::keeps_none, crate::proofs::Asked::keeps_twice))]
-impl<H> Reception<H> {
+impl<H: Threads + Copy> Reception<H> {
     /// Offers slices to places, run by run, and takes back what is decoded: where a run is handed back, and
     /// where a picture may be released, which is answered.
     pub(crate) fn exchange<P: Places>(

@@ -333,6 +333,16 @@ module _ (placed : PartPicture) (runs : List WaitingRun) (came : List Bool) (wai
   pub seen-marked : (n : ℕ) → slice_index_or came n false ≡ is_some (slice_that_came now n)
   seen-marked n = waiting.marked n ∙ ap (λ (q : PartPicture). is_some (slice_that_came q n)) view
 
+  -- all runs come to their places
+  module _ (placed2 : PartPicture) (all : placed2 ≡ with_runs placed runs) (runs2 : List WaitingRun) (none : runs2 ≡ []) where
+    pub all-placed : AreWaiting placed2 runs2 came
+    all-placed =
+        subst (λ (rs : List WaitingRun). AreWaiting placed2 rs came) (sym none)
+        (subst (λ (q : PartPicture). AreWaiting q [] came) (sym all) (waiting-placed placed runs came waiting))
+
+    pub seen-all : with_runs placed2 runs2 ≡ now
+    seen-all = ap (λ (rs : List WaitingRun). with_runs placed2 rs) none ∙ all ∙ view
+
   -- a slice by itself
   module _ (n : ℕ) (in_plan : n < slice_count now.parameters) (once : slice_that_came now n ≡ None) where
     own-in_plan : n < slice_count (with_runs placed runs).parameters

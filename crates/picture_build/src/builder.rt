@@ -23,6 +23,10 @@ use std::thread::Threads;
 use vc_slice::{SliceCoeffs, Strip};
 use vc_types::{NoMemory, Plan, Plane, Unsound};
 
+// How many runs are many: so few that their strips are still in the cache when they come to their places, and
+// so many that starting two threads for them takes little of the time.
+const MANY: usize = 256;
+
 /// Why a slice wasn't put into a picture.
 #[derive(Clone, Copy, Debug, PartialEq, Eq)]
 pub enum NotPut {
@@ -36,8 +40,8 @@ pub enum NotPut {
 /// A picture whose slices come one after another, in any order. It is seen as the transform parameters and
 /// a finite map from a slice's number to its coefficients. It reserves 8 bytes a coefficient, half of which
 /// stay untouched until one may not fit 32 bits, and 4 more for each coefficient that a slice may have at
-/// most. A slice that comes by itself takes no more. A run keeps its strip, in which it waits until the planes
-/// are made; the memory of strips that are done with is kept for other runs.
+/// most. A slice that comes by itself takes no more. A run waits in its strip until it comes to its places, by
+/// `place_many` or once the planes are made; the memory of strips that are done with is kept for other runs.
 #[derive(Drop)]
 pub struct PictureBuilder {
     placed: PlacedSlices,
@@ -132,6 +136,17 @@ impl PictureBuilder {
         self.placed.place(from_ref(&run));
     }
 
+    /// Where many runs wait, they come to their places, the components side by side, by join. Called after each
+    /// run, it keeps the runs that wait few, and the memory that their strips take.
+    pub fn place_many<H: Threads>(&mut self, rt: &H)
+        ensures unchanged { self.new ≡ self.old }
+    {
+        if self.runs.runs().len() < MANY {
+            return;
+        }
+        place_waiting_joined(rt, &mut self.placed, &mut self.runs);
+    }
+
     /// Decodes a slice that didn't come yet (ST 2042-1, high-quality slice) straight to the places of its
     /// coefficients. After a refusal the picture is as before.
     pub fn put(&mut self, index: u32, bytes: &[u8]) -> Result<(), NotPut>
@@ -172,8 +187,7 @@ impl PictureBuilder {
             ≡ planes_of self.old.parameters (slices_of self.old)) }
         ensures restarted { self.new ≡ no_slices self.old.parameters }
     {
-        self.placed.place_joined(&rt, self.runs.runs());
-        self.runs.clear();
+        place_waiting_joined(&rt, &mut self.placed, &mut self.runs);
         let made = self.placed.planes_joined(&rt);
         self.came.fill(false);
         made
@@ -211,5 +225,15 @@ fn place_waiting(placed: &mut PlacedSlices, runs: &mut WaitingRuns)
     ensures none { runs.new ≡ [] }
 {
     placed.place(runs.runs());
+    runs.clear();
+}
+
+// The same, the components side by side, by join.
+fn place_waiting_joined<H: Threads>(rt: &H, placed: &mut PlacedSlices, runs: &mut WaitingRuns)
+    requires { MayAllCome placed.old runs.old }
+    ensures placed { placed.new ≡ with_runs placed.old runs.old }
+    ensures none { runs.new ≡ [] }
+{
+    placed.place_joined(rt, runs.runs());
     runs.clear();
 }

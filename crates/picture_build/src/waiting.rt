@@ -2,7 +2,6 @@ ghost use Rattle.std.specs.Prelude.{◌≡◌, ◌++◌, ◌∷◌, [], OnOk, On
 
 use std::alloc::Global;
 use std::marker::Model;
-use std::mem::swap;
 use vc_slice::Strip;
 
 /// A run of a picture whose strip isn't in its places yet: its first slice, and how many it has.
@@ -60,14 +59,12 @@ impl WaitingRuns {
         }
     }
 
-    /// No run waits any longer.
+    /// No run waits any longer. Where there is no memory to keep theirs, it is let go.
     pub(crate) fn clear(&mut self)
         ensures { self.new ≡ [] }
     {
-        if !self.runs.is_empty() {
-            swap(&mut self.runs, &mut self.spent);
-            self.runs.clear();
-        }
+        let _ = self.spent.append(&mut self.runs);
+        self.runs.clear();
     }
 
     /// The memory of a strip that waits no longer, if there is one.
