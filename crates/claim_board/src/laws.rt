@@ -44,8 +44,8 @@ pub fn each_round_has_one_claim()
         → claims_in place serial history ≤ 1 }
 {}
 
-/// Before the first step the places of a new machine, of which each place has as many as a run may have slices,
-/// show those of the board.
+/// Before the first step the places of a new machine, of which each place has as many as a run may have
+/// slices, show those of the board.
 pub fn a_new_machine_shows_a_new_board()
     ensures { (places : ℕ)
         → ShowRuns (new_machine (run_places * places)).places (places_after places []) }

@@ -54,8 +54,8 @@ pub trait Listener {
         ensures more { IsTrue result → wants_one self.now }
         ensures enough { IsFalse result → has_enough self.now };
 
-    /// Takes a datagram, and answers whether it was of use: one that wasn't doesn't keep a wire from ending by
-    /// silence.
+    /// Takes a datagram, and answers whether it was of use: one that wasn't doesn't keep a wire from ending
+    /// by silence.
     fn hear(&mut self, datagram: Bytes) -> Result<bool, ListenerFault>
         requires ready { is_ready self.old }
         requires wanted { wants_one self.old }

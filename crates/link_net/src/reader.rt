@@ -44,8 +44,8 @@ impl Shared {
     }
 }
 
-/// What a reader's thread is to do: it receives until it is to end. Each datagram goes into the ring after its
-/// length, or is dropped where the ring has no room for all of it.
+/// What a reader's thread is to do: it receives until it is to end. Each datagram goes into the ring after
+/// its length, or is dropped where the ring has no room for all of it.
 #[derive(Drop)]
 pub struct Reader {
     pub(crate) socket: UdpSocket,

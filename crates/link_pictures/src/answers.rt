@@ -28,9 +28,9 @@ use vc_types::{NoMemory, Plan, Plane};
 /// first answer on, half of which stay untouched until a coefficient may not fit 32 bits, and keeps the
 /// strips of its runs until they come to their places. The memory of one picture is kept for the next of the
 /// same plan, that of its strips for other runs. Where there are threads, runs come to their places once many
-/// wait, and a picture is transformed in four parts, both side by side, by join. Where there are none, all runs
-/// wait until their picture is transformed, and that is in turn; a receiver without threads has no runs. After
-/// `NoMemory` nothing is promised of them.
+/// wait, and a picture is transformed in four parts, both side by side, by join. Where there are none, all
+/// runs wait until their picture is transformed, and that is in turn; a receiver without threads has no runs.
+/// After `NoMemory` nothing is promised of them.
 #[derive(Drop)]
 pub struct Answers<H> {
     alloc: Global,

@@ -157,8 +157,8 @@ impl<H: Threads + Copy> Reception<H> {
         self.keep_room(load.room)
     }
 
-    // Decodes a run here, and keeps its answers as those of one that came back. Where not all of its slices are
-    // the receiver's own, only those are decoded that are.
+    // Decodes a run here, and keeps its answers as those of one that came back. Where not all of its slices
+    // are the receiver's own, only those are decoded that are.
     fn make_run(&mut self, load: RunLoad) -> Result<(), NoMemory>
         ensures made { OnOk result (self.new ≡ takes_dones self.old (made_run load.job)) }
         ensures out { self.new.out ≡ self.old.out }

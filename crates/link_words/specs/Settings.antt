@@ -1,6 +1,7 @@
 -- The settings that words of the grammar mean: what is given, and defaults.
-use Rattle.std.specs.Prelude.{ℕ, ◌+◌, ◌-◌, ◌*◌, ◌%◌, List, Bool, ◌&&◌, ◌||◌, not, ◌==◌, nat_lt, Option, Some, None}
-use Rattle.std.specs.Prelude.{if◌then◌else◌, length, unwrap_or, ok_or, option_map, Result, Err, codes}
+use Rattle.std.specs.Prelude.{ℕ, ◌+◌, ◌-◌, ◌*◌, ◌%◌, ◌==◌, ◌&&◌, ◌||◌, not, if◌then◌else◌}
+use Rattle.std.specs.Prelude.{List, Bool, nat_lt, Option, Some, None, Result, Err}
+use Rattle.std.specs.Prelude.{length, unwrap_or, ok_or, option_map, codes}
 use Rattle.std.specs.Str.{bytes_eq}
 use Rattle.std.specs.List.{list_any}
 use Rattle.vc_types.specs.declared.choice.IndexChoice.{IndexChoice}

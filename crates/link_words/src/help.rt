@@ -45,7 +45,8 @@ const STATUSES: [&str; 16] = [
     "  10  the raw frames end within a frame",
     "  11  a sample has more bits than its --range",
     "  12  a slice is too large for its lengths or for a datagram: try --fit, --scaler or --size",
-    "  13  the stream is damaged or of another profile, the file isn't a pcap file, or an entry is too long to be sent",
+    "  13  the stream is damaged or of another profile, the file isn't a pcap file, or an entry is \
+     too long to be sent",
     "  14  there are more frames than --frames allows",
 ];
 

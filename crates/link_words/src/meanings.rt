@@ -69,7 +69,8 @@ pub(crate) const NAMES: [(Name, &str); 40] = [
     (Name::Top, "1: the top field is the earlier one"),
     (
         Name::Wavelet,
-        "0: Deslauriers-Dubuc (9,7); 1: LeGall (5,3); 2: Deslauriers-Dubuc (13,7);\n    3 and 4: Haar without and with a shift; 5: Fidelity; 6: Daubechies (9,7)",
+        "0: Deslauriers-Dubuc (9,7); 1: LeGall (5,3); 2: Deslauriers-Dubuc (13,7);\n\
+         \x20   3 and 4: Haar without and with a shift; 5: Fidelity; 6: Daubechies (9,7)",
     ),
     (Name::Depth, "levels of the transform"),
     (Name::Slices, "slices across and down a picture"),

@@ -1,8 +1,8 @@
 use vc_types::{FrameRate, GenSettings, SendSettings};
 
 /// What the words of a command line say: a command and its options, defaults filled in. An address is a word,
-/// and so is a reporter's name. `pcap` is the port of the datagrams in a pcap file, where the input is one and
-/// no capture; port 0 stands for all.
+/// and so is a reporter's name. `pcap` is the port of the datagrams in a pcap file, where the input is one
+/// and no capture; port 0 stands for all.
 #[derive(Clone, Copy)]
 pub enum Settings<'a> {
     Decode {

@@ -19,7 +19,7 @@ use Rattle.picture_build.specs.declared.waiting.WaitingRun.{WaitingRun}
 use Rattle.picture_build.specs.Kept.{PartPicture, no_slices, slice_that_came, with_slice, with_run, IsKept, FillsRun}
 use Rattle.picture_build.specs.Marks.{MarksRun, MarksRuns, AreInside}
 use Rattle.picture_build.specs.Puts.{Puts}
-use Rattle.picture_build.specs.Waiting.{with_waiting, with_runs, IsRunOf, AreRunsOf, MayCome, MayAllCome, AreWaiting, FillsRuns}
+use Rattle.picture_build.specs.Waiting.{with_waiting, with_runs, IsWaitingRun, AreWaitingRuns, MayCome, MayAllCome, AreWaiting, FillsRuns}
 use Rattle.picture_build.proofs.KeptRuns.{run-parameters, run-length, run-off, run-on, run-inside, seen_run, kept_seen}
 use Rattle.picture_build.proofs.SeenSlices.{seen}
 
@@ -39,15 +39,15 @@ runs-length picture [] = refl
 runs-length picture (run ∷ runs) = runs-length (with_waiting picture run) runs ∙ run-length picture run.first (cuts picture run)
 
 -- each is a run of the plan
-pub runs-of : (picture : PartPicture) (runs : List WaitingRun) → MayAllCome picture runs → AreRunsOf picture.parameters runs
+pub runs-of : (picture : PartPicture) (runs : List WaitingRun) → MayAllCome picture runs → AreWaitingRuns picture.parameters runs
 unfolding MayAllCome
 runs-of picture [] all k d below = absurd (omega (arith, below))
 runs-of picture (run ∷ runs) all zero d below = all.0.is_run
 runs-of picture (run ∷ runs) all (suc k) d below =
-    subst (λ (q : Parameters). IsRunOf q (slice_index_or runs k d)) (run-parameters picture run.first (cuts picture run))
+    subst (λ (q : Parameters). IsWaitingRun q (slice_index_or runs k d)) (run-parameters picture run.first (cuts picture run))
     (runs-of (with_waiting picture run) runs all.1 k d (omega (arith, below)))
 
-pub runs-inside : (p : Parameters) (runs : List WaitingRun) (len : ℕ) → len ≡ slice_count p → AreRunsOf p runs → AreInside len runs
+pub runs-inside : (p : Parameters) (runs : List WaitingRun) (len : ℕ) → len ≡ slice_count p → AreWaitingRuns p runs → AreInside len runs
 runs-inside p runs len all of_plan k d below =
     let run = slice_index_or runs k d in
     let inside = run-inside p run.first run.count (of_plan k d below).run in

@@ -23,17 +23,17 @@ abbrev pub with_runs : PartPicture → List WaitingRun → PartPicture
 with_runs = fold with_waiting
 
 -- a run of some slices, and the coefficients of so many in its strip
-pub record IsRunOf (p : Parameters) (waiting : WaitingRun) : Type 0 where
+pub record IsWaitingRun (p : Parameters) (waiting : WaitingRun) : Type 0 where
   pub run : IsRun p waiting.first waiting.count
   pub some : 0 < waiting.count
   pub whole : IsStripOf p waiting.first waiting.count waiting.strip
 
-abbrev pub AreRunsOf : Parameters → List WaitingRun → Type 0
-AreRunsOf p = All (IsRunOf p)
+abbrev pub AreWaitingRuns : Parameters → List WaitingRun → Type 0
+AreWaitingRuns p = All (IsWaitingRun p)
 
 -- a run may come: none of its slices came, and each is sound
 pub record MayCome (picture : PartPicture) (run : WaitingRun) : Type 0 where
-  pub is_run : IsRunOf picture.parameters run
+  pub is_run : IsWaitingRun picture.parameters run
   pub once : (k : ℕ) → k < run.count → slice_that_came picture (run.first + k) ≡ None
   pub sound : (k : ℕ) → k < run.count → AreSliceCoefficients picture.parameters (run.first + k)
       (strip_slice picture.parameters run.first run.count run.strip (run.first + k))

@@ -32,16 +32,17 @@ const MANY: usize = 256;
 pub enum NotPut {
     /// It decodes to no coefficients.
     Unsound(Unsound),
-    /// It has a number with a magnitude of 2^30 or more, or may have a coefficient with one of 2^60 or more. It
-    /// is to be decoded by itself, and then filled in.
+    /// It has a number with a magnitude of 2^30 or more, or may have a coefficient with one of 2^60 or more.
+    /// It is to be decoded by itself, and then filled in.
     Wide,
 }
 
 /// A picture whose slices come one after another, in any order. It is seen as the transform parameters and
 /// a finite map from a slice's number to its coefficients. It reserves 8 bytes a coefficient, half of which
 /// stay untouched until one may not fit 32 bits, and 4 more for each coefficient that a slice may have at
-/// most. A slice that comes by itself takes no more. A run waits in its strip until it comes to its places, by
-/// `place_many` or once the planes are made; the memory of strips that are done with is kept for other runs.
+/// most. A slice that comes by itself takes no more. A run waits in its strip until it comes to its places,
+/// by `place_many` or once the planes are made; the memory of strips that are done with is kept for other
+/// runs, and that of planes for the next picture's.
 #[derive(Drop)]
 pub struct PictureBuilder {
     placed: PlacedSlices,
@@ -136,8 +137,8 @@ impl PictureBuilder {
         self.placed.place(from_ref(&run));
     }
 
-    /// Where many runs wait, they come to their places, the components side by side, by join. Called after each
-    /// run, it keeps the runs that wait few, and the memory that their strips take.
+    /// Where many runs wait, they come to their places, the components side by side, by join. Called after
+    /// each run, it keeps the runs that wait few, and the memory that their strips take.
     pub fn place_many<H: Threads>(&mut self, rt: &H)
         ensures unchanged { self.new ≡ self.old }
     {

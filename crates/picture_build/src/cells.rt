@@ -82,9 +82,9 @@ impl CoefficientCells {
         }
     }
 
-    /// Puts the coefficients that a component's numbers stand for at their places: `greatest` is at least each
-    /// number's magnitude. TooWide where a coefficient may not fit 32 bits; cells of the slice hold anything
-    /// then.
+    /// Puts the coefficients that a component's numbers stand for at their places: `greatest` is at least
+    /// each number's magnitude. TooWide where a coefficient may not fit 32 bits; cells of the slice hold
+    /// anything then.
     pub(crate) fn put_numbers(
         &mut self,
         bands: &SliceBands,

@@ -12,7 +12,7 @@ ghost use Rattle.vc_geometry.specs.OfPlan.{run_coefficient_count};
 ghost use Rattle.vc_slice.specs.Coded.{coded_of};
 ghost use Rattle.vc_geometry.specs.CellRects.{ChangesRect, LiesIn, cell_in};
 ghost use Rattle.picture_build.specs.Kept.{ChangesOnly, FillsRun, FillsSlice};
-ghost use Rattle.picture_build.specs.Waiting.{AreRunsOf, FillsRuns};
+ghost use Rattle.picture_build.specs.Waiting.{AreWaitingRuns, FillsRuns};
 ghost use Rattle.picture_build.specs.PartsKept.{place_kept, AreCells, ChangesPart, FillsPart};
 ghost use Rattle.vc_types.specs.OfPlan.{AreSliceCoefficients, all_coefficients, padded_height, padded_width};
 ghost use Rattle.vc_types.specs.OfPlan.{slice_coefficient_count, slice_coefficients, slice_count};
@@ -223,7 +223,7 @@ pub(crate) fn place_runs(
     runs: &[WaitingRun],
     cells: &mut CoefficientCells,
 )
-    requires runs { AreRunsOf (parameters_of plan.now) runs.now }
+    requires runs { AreWaitingRuns (parameters_of plan.now) runs.now }
     requires cells { length cells.old ≡ padded_height plan.now c * padded_width plan.now c }
     ensures { FillsRuns (parameters_of plan.now) c runs.now cells.old cells.new }
 {
@@ -242,7 +242,7 @@ pub(crate) fn place_runs_joined<H: Threads>(
     c1: &mut CoefficientCells,
     c2: &mut CoefficientCells,
 )
-    requires runs { AreRunsOf (parameters_of plan.now) runs.now }
+    requires runs { AreWaitingRuns (parameters_of plan.now) runs.now }
     requires y { length y.old ≡ padded_height plan.now Y * padded_width plan.now Y }
     requires c1 { length c1.old ≡ padded_height plan.now C1 * padded_width plan.now C1 }
     requires c2 { length c2.old ≡ padded_height plan.now C2 * padded_width plan.now C2 }
@@ -265,7 +265,7 @@ fn place_beside<H: Threads>(
     c2: &mut CoefficientCells,
     y: &mut CoefficientCells,
 )
-    requires runs { AreRunsOf (parameters_of plan.now) runs.now }
+    requires runs { AreWaitingRuns (parameters_of plan.now) runs.now }
     requires c2 { length c2.old ≡ padded_height plan.now C2 * padded_width plan.now C2 }
     requires y { length y.old ≡ padded_height plan.now Y * padded_width plan.now Y }
     ensures c2 { FillsRuns (parameters_of plan.now) C2 runs.now c2.old c2.new }

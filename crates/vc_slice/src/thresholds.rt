@@ -28,8 +28,9 @@ pub(crate) fn used(coefficients: &[i32], most: u32, factor: u64) -> usize
 }
 
 /// How many bits beyond one each the codes of the numbers have that coefficients, of magnitudes up to `most`,
-/// are quantised to by a factor in quarters. Nothing is divided: a number that 1 is added to has so many binary
-/// digits exactly where its coefficient reaches a threshold. The first adds three bits, each that follows two.
+/// are quantised to by a factor in quarters. Nothing is divided: a number that 1 is added to has so many
+/// binary digits exactly where its coefficient reaches a threshold. The first adds three bits, each that
+/// follows two.
 pub(crate) fn more_bits(coefficients: &[i32], most: u32, factor: u64) -> u64
     requires most { All (λ z. unsigned_abs z ≤ most) coefficients.now }
     requires factor { (4 ≤ factor) × (factor < 2 ^ 34) }

@@ -32,8 +32,8 @@ pub(crate) fn rows_bound(wavelet: u8, most: u64) -> Option<u64>
     shifted_bound(wavelet, most, made)
 }
 
-/// The same. Where that is too high, the greatest magnitude among the cells takes its place; where that is too
-/// high, there is none.
+/// The same. Where that is too high, the greatest magnitude among the cells takes its place; where that is
+/// too high, there is none.
 pub(crate) fn rows_reach(wavelet: u8, cells: &[i32], most: u64) -> Option<u64>
     requires wavelet { wavelet ≤ 6 }
     requires most { most < 2 ^ 31 }

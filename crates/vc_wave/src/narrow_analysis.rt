@@ -119,8 +119,8 @@ fn part_level(level: Level, cells: &mut [i32], line: &mut [i32])
     part_columns(level, cells);
 }
 
-/// Takes the levels of a symmetric transform below the highest apart, from the top down. The rows of each then
-/// are in turn, as those of the highest are before.
+/// Takes the levels of a symmetric transform below the highest apart, from the top down. The rows of each
+/// then are in turn, as those of the highest are before.
 #[tactic(auto, using(crate::proofs::Levels::level_fits, crate::proofs::Levels::level_some))]
 pub(crate) fn part_levels(levels: Levels, cells: &mut [i32], line: &mut [i32])
     requires some { 1 ≤ levels.nesting.levels }

@@ -124,8 +124,8 @@ pub fn forward_narrow(plan: &Plan, c: Component, plane: &Plane, cells: &mut [i32
     part_below(plan, c, cells, room);
 }
 
-/// The same, with the highest level in two halves that are made side by side, by join. The room is larger, and
-/// is there before they begin.
+/// The same, with the highest level in two halves that are made side by side, by join. The room is larger,
+/// and is there before they begin.
 pub fn forward_narrow_joined<H: Threads>(
     rt: &H,
     plan: &Plan,

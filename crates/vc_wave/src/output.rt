@@ -338,8 +338,8 @@ pub fn inverse_output(
     put_level(&subbands, band, 0, samples, format)
 }
 
-/// The same, with the highest level in two halves that are made side by side, by join. The room is larger, and
-/// is there before they begin.
+/// The same, with the highest level in two halves that are made side by side, by join. The room is larger,
+/// and is there before they begin.
 pub fn inverse_output_joined<H: Threads>(
     rt: &H,
     plan: &Plan,

@@ -61,8 +61,8 @@ fn ready_row(cells: &mut [i32], at: usize, half: usize, samples: &[u16], how: Re
     }
 }
 
-// Takes a row of a plane apart into two halves, as the highest level does, from a place of the window on; past
-// the last row, that one.
+// Takes a row of a plane apart into two halves, as the highest level does, from a place of the window on;
+// past the last row, that one.
 fn part_plane_row(source: &Source<'_>, y: usize, window: &mut [i32], start: usize)
     requires inside { start + 2 * source.now.level.w ≤ length window.old }
     ensures on { (x : ℕ) → x < 2 * source.now.level.w → line_of window.new (start + x)

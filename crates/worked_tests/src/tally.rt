@@ -39,8 +39,13 @@ const TALLY: Tally = Tally {
     frames: 130,
 };
 
-const TEXT: &str =
-    "datagrams 100\nrtp-short 101\nrtp-version 102\nrtp-shape 103\npayload-short 104\npayload-code 105\npayload-fragment 106\nforeign 107\nheader-new 108\nheader-same 109\nheader-other 110\nheader-bad 111\nend 112\nskipped 113\nlate 114\nparams-kept 115\nparams-repeat 116\nparams-conflict 117\nparams-bad 118\nslices-kept 119\nslices-repeat 120\nslices-conflict 121\nslices-pending 122\nslices-full 123\nslices-form 124\nslices-place 125\nslices-cut 126\nincomplete 127\nunsound 128\nunpaired 129\nframes 130\n";
+const TEXT: &str = "\
+    datagrams 100\nrtp-short 101\nrtp-version 102\nrtp-shape 103\npayload-short 104\n\
+    payload-code 105\npayload-fragment 106\nforeign 107\nheader-new 108\nheader-same 109\n\
+    header-other 110\nheader-bad 111\nend 112\nskipped 113\nlate 114\nparams-kept 115\n\
+    params-repeat 116\nparams-conflict 117\nparams-bad 118\nslices-kept 119\nslices-repeat 120\n\
+    slices-conflict 121\nslices-pending 122\nslices-full 123\nslices-form 124\nslices-place 125\n\
+    slices-cut 126\nincomplete 127\nunsound 128\nunpaired 129\nframes 130\n";
 
 #[test]
 fn a_tally_has_its_31_lines_in_order(rt: HostRuntime) -> Result<(), Fail> {

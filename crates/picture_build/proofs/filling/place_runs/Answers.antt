@@ -2,7 +2,7 @@ use Rattle.std.proofs.Common.{◌++◌, ◌∷◌, [], List, take, arith, sym, a
 use Rattle.std.proofs.lemmas.List.{take_all, take_more}
 use Rattle.vc_types.specs.TransformParameters.{parameters_of}
 use Rattle.picture_build.specs.declared.waiting.WaitingRun.{WaitingRun}
-use Rattle.picture_build.specs.Waiting.{FillsRuns, IsRunOf}
+use Rattle.picture_build.specs.Waiting.{FillsRuns, IsWaitingRun}
 use Rattle.picture_build.proofs.WaitingRuns.{fills-length, fills-more, fills-none}
 use Rattle.picture_build.proofs.filling.place_runs.Goals as goal
 
@@ -11,17 +11,17 @@ loop-waiting-init c = fills-none (parameters_of c.args.plan.now) c.args.c _
 
 pub new-run-requires-clause-run : goal.new-run-requires-clause-run
 new-run-requires-clause-run c =
-    let own = subst (IsRunOf (parameters_of c.args.plan.now)) (sym c.waiting-item.is) (c.requires.runs c.loop-waiting.waiting-index c.waiting-item.result c.loop-waiting-test.true) in
+    let own = subst (IsWaitingRun (parameters_of c.args.plan.now)) (sym c.waiting-item.is) (c.requires.runs c.loop-waiting.waiting-index c.waiting-item.result c.loop-waiting-test.true) in
     own.run
 
 pub new-run-requires-clause-some : goal.new-run-requires-clause-some
 new-run-requires-clause-some c =
-    let own = subst (IsRunOf (parameters_of c.args.plan.now)) (sym c.waiting-item.is) (c.requires.runs c.loop-waiting.waiting-index c.waiting-item.result c.loop-waiting-test.true) in
+    let own = subst (IsWaitingRun (parameters_of c.args.plan.now)) (sym c.waiting-item.is) (c.requires.runs c.loop-waiting.waiting-index c.waiting-item.result c.loop-waiting-test.true) in
     own.some
 
 pub place_run-requires-clause-strip : goal.place_run-requires-clause-strip
 place_run-requires-clause-strip c =
-    let own = subst (IsRunOf (parameters_of c.args.plan.now)) (sym c.waiting-item.is) (c.requires.runs c.loop-waiting.waiting-index c.waiting-item.result c.loop-waiting-test.true) in
+    let own = subst (IsWaitingRun (parameters_of c.args.plan.now)) (sym c.waiting-item.is) (c.requires.runs c.loop-waiting.waiting-index c.waiting-item.result c.loop-waiting-test.true) in
     rw (c.new-run.ensures.plan, c.new-run.ensures.first, c.new-run.ensures.count, c.component.ensures.value) (own.whole c.args.c)
 
 pub place_run-requires-clause-cells : goal.place_run-requires-clause-cells
