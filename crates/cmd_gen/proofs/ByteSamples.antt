@@ -3,8 +3,8 @@ use Rattle.std.proofs.Common.{◌≡◌, ◌≤◌, ℕ, ◌^◌, false, arith}
 use Rattle.std.specs.Prelude.{◌||◌, nat_lt}
 use Rattle.std.proofs.Math.Nat.{pow-le-pow_right}
 use Rattle.frame_writer.specs.Samples.{FitBytes, HaveByteSamples}
-use Rattle.link_gen.proofs.States.{samples_below}
-use Rattle.link_gen.specs.Generator.{generated_frame, generated_samples, plane_samples, samples_before, state_behind}
+use Rattle.cmd_gen.proofs.States.{samples_below}
+use Rattle.cmd_gen.specs.Generator.{generated_frame, generated_samples, plane_samples, samples_before, state_behind}
 use Rattle.vc_types.specs.declared.shape.Shape.{Shape}
 use Rattle.vc_types.specs.declared.video.Component.TheVariants.{Y, C1, C2}
 use Rattle.vc_types.specs.RawFrames.{is_wide}

@@ -5,7 +5,7 @@ use Rattle.std.specs.Result.{IsOk}
 use Rattle.std.proofs.lemmas.List.Elements.{All-head, All-tail}
 use Rattle.cmd_gen.specs.Checking.{CheckEnded, Checks, HasLargeSlice, IsCheckable}
 use Rattle.cmd_send.specs.FramesSent.{frame_fault}
-use Rattle.link_gen.specs.Defaults.{sent_by_default}
+use Rattle.cmd_gen.specs.Defaults.{sent_by_default}
 use Rattle.link_report.specs.declared.ending.Ending.{Ending}
 use Rattle.link_report.specs.declared.ending.Ending.TheVariants as endings
 use Rattle.link_report.specs.declared.summary.Summary.{Summary}

@@ -7,8 +7,8 @@ use Rattle.cmd_gen.specs.Counting.{counted_with_samples, counted_with, held_back
 use Rattle.cmd_gen.specs.declared.comparison.Comparison.{Comparison}
 use Rattle.cmd_gen.specs.Differences.{different_samples}
 use Rattle.frame_writer.specs.FrameBytes.{samples_of_bytes}
-use Rattle.link_gen.proofs.States.{samples_count}
-use Rattle.link_gen.specs.Generator.{generated_samples, next_state, sample_of}
+use Rattle.cmd_gen.proofs.States.{samples_count}
+use Rattle.cmd_gen.specs.Generator.{generated_samples, next_state, sample_of}
 use Rattle.vc_types.specs.Bits.{digit_of}
 
 -- ---- samples

@@ -15,9 +15,9 @@ use Rattle.cmd_send.proofs.Numbering.{numbers_none}
 use Rattle.cmd_send.proofs.SentMore.{frames_sent-more}
 use Rattle.cmd_send.proofs.Stopping.{none_sent, stream_is}
 use Rattle.cmd_send.proofs.TakingFrames.{datagrams_are, numbers_are, sound}
-use Rattle.link_gen.proofs.Frames.{frames_then, one_frame_more}
-use Rattle.link_gen.specs.Defaults.{all_generated, sent_by_default, shape_of_frames}
-use Rattle.link_gen.specs.Generator.{frame_samples, generated_frame, generated_frames, state_behind}
+use Rattle.cmd_gen.proofs.Frames.{frames_then, one_frame_more}
+use Rattle.cmd_gen.specs.Defaults.{all_generated, sent_by_default, shape_of_frames}
+use Rattle.cmd_gen.specs.Generator.{frame_samples, generated_frame, generated_frames, state_behind}
 use Rattle.link_model.specs.SendingPictures.{Need, chosen_index, wants_lengths}
 use Rattle.link_report.specs.declared.ending.Ending.{Ending}
 use Rattle.link_report.specs.declared.ending.Ending.TheVariants as endings

@@ -3,9 +3,9 @@ use Rattle.std.proofs.Common.{◌≡◌, ◌≤◌, ℕ, ◌^◌, Bool, true, fa
 use Rattle.std.specs.Prelude.{IsTrue, drop, if◌then◌else◌}
 use Rattle.std.specs.Option.{option_or}
 use Rattle.cmd_send.specs.FramesSent.{frame_fault, frame_indices}
-use Rattle.link_gen.proofs.States.{samples_below}
-use Rattle.link_gen.specs.Defaults.{sent_by_default, shape_of_frames}
-use Rattle.link_gen.specs.Generator.{generated_frame, plane_samples, samples_before, state_behind}
+use Rattle.cmd_gen.proofs.States.{samples_below}
+use Rattle.cmd_gen.specs.Defaults.{sent_by_default, shape_of_frames}
+use Rattle.cmd_gen.specs.Generator.{generated_frame, plane_samples, samples_before, state_behind}
 use Rattle.link_model.specs.Sending.{pictures_of}
 use Rattle.link_model.specs.SendingFaults.{SendFault, SampleRange, first_of_slices, first_sample_fault, first_slice_fault, is_too_large, send_fault, slice_fault}
 use Rattle.link_model.specs.SendingPictures.{sent_parameters, sent_sequence, slices_with_indices}

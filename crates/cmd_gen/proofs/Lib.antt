@@ -1,3 +1,6 @@
+pub mod States
+pub mod Frames
+pub mod SizedFrames
 pub mod Checked
 pub mod CheckCompletes
 pub mod Ends

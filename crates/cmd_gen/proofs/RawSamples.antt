@@ -6,9 +6,9 @@ use Rattle.cmd_gen.specs.Counting.{held_back}
 use Rattle.cmd_gen.specs.Differences.{different_samples, differences, raw_samples}
 use Rattle.frame_writer.specs.FrameBytes.{samples_of_bytes}
 use Rattle.cmd_gen.specs.Generating.{sample_total}
-use Rattle.link_gen.proofs.States.{behind_next}
-use Rattle.link_gen.specs.Defaults.{shape_of_frames}
-use Rattle.link_gen.specs.Generator.{frame_samples, generated_frame, generated_frames, generated_samples, next_state, plane_samples, sample_of, state_behind}
+use Rattle.cmd_gen.proofs.States.{behind_next}
+use Rattle.cmd_gen.specs.Defaults.{shape_of_frames}
+use Rattle.cmd_gen.specs.Generator.{frame_samples, generated_frame, generated_frames, generated_samples, next_state, plane_samples, sample_of, state_behind}
 use Rattle.vc_types.specs.declared.shape.Shape.{Shape}
 use Rattle.vc_types.specs.declared.video.Component.TheVariants.{Y, C1, C2}
 use Rattle.vc_types.specs.declared.settings.GenSettings.{GenSettings}

@@ -2,7 +2,7 @@
 use Rattle.std.proofs.Common.{◌≡◌, ◌≤◌, ℕ, zero, suc, refl, arith}
 use Rattle.std.specs.Prelude.{IsTrue}
 use Rattle.std.proofs.lemmas.Bool.{false≢true}
-use Rattle.link_gen.specs.Defaults.{shape_of_frames}
+use Rattle.cmd_gen.specs.Defaults.{shape_of_frames}
 use Rattle.link_model.specs.SendingPictures.{sent_sequence}
 use Rattle.vc_types.specs.SenderSettings.{Frames}
 use Rattle.vc_types.specs.SequenceHeader.{picture_shape}

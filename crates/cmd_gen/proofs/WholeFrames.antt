@@ -10,9 +10,9 @@ use Rattle.cmd_gen.proofs.SampleBits.{few_luma_bits, same_depth}
 use Rattle.frame_writer.specs.FrameBytes.{samples_of_bytes}
 use Rattle.frame_writer.proofs.SampleBytes.{samples_bytes-narrow}
 use Rattle.cmd_gen.specs.Generating.{generated_bytes, raw_bytes_of_frames}
-use Rattle.link_gen.proofs.States.{samples_below}
-use Rattle.link_gen.specs.Defaults.{all_generated, shape_of_frames}
-use Rattle.link_gen.specs.Generator.{frame_samples, generated_samples}
+use Rattle.cmd_gen.proofs.States.{samples_below}
+use Rattle.cmd_gen.specs.Defaults.{all_generated, shape_of_frames}
+use Rattle.cmd_gen.specs.Generator.{frame_samples, generated_samples}
 use Rattle.vc_types.specs.declared.settings.GenSettings.{GenSettings}
 use Rattle.vc_types.specs.declared.shape.Shape.{Shape}
 use Rattle.vc_types.specs.Planes.{Planes}

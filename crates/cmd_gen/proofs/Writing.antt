@@ -4,9 +4,9 @@ use Rattle.std.proofs.lemmas.Grind.{flat_map-append}
 use Rattle.std.proofs.lemmas.List.{append-nil}
 use Rattle.cmd_gen.specs.Generating.{GenerateEnded, generated_bytes, raw_bytes_of_frames}
 use Rattle.cmd_gen.specs.Steps.{PutsFrame, next_bytes}
-use Rattle.link_gen.proofs.Frames.{frames_then, one_frame_more}
-use Rattle.link_gen.specs.Defaults.{shape_of_frames}
-use Rattle.link_gen.specs.Generator.{frame_samples, generated_frame, generated_frames, state_behind}
+use Rattle.cmd_gen.proofs.Frames.{frames_then, one_frame_more}
+use Rattle.cmd_gen.specs.Defaults.{shape_of_frames}
+use Rattle.cmd_gen.specs.Generator.{frame_samples, generated_frame, generated_frames, state_behind}
 use Rattle.link_report.specs.declared.ending.Ending.{Ending}
 use Rattle.link_report.specs.declared.ending.Ending.TheVariants as endings
 use Rattle.vc_ports.proofs.Growing.{Grew-none, Grew-then, GrewBySome-then, GrewBySome-front}

@@ -4,7 +4,7 @@ use Rattle.cmd_gen.specs.Differences.{differences}
 use Rattle.link_receiver.specs.StartedWorkers.{HasStarted}
 use Rattle.cmd_send.specs.FramesSent.{AreSendable, frame_fault, stream_sent}
 use Rattle.cmd_gen.specs.Generating.{sample_total}
-use Rattle.link_gen.specs.Defaults.{all_generated, sent_by_default}
+use Rattle.cmd_gen.specs.Defaults.{all_generated, sent_by_default}
 use Rattle.link_model.specs.Output.{full_output}
 use Rattle.link_model.specs.SendingFaults as faults
 use Rattle.link_report.specs.declared.ending.Ending.{Ending}

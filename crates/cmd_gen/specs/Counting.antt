@@ -3,7 +3,7 @@ use Rattle.std.specs.Prelude.{ℕ, ◌+◌, Bool, true, List, [], ◌∷◌, ◌
 use Rattle.cmd_gen.specs.declared.comparison.Comparison.{Comparison}
 use Rattle.cmd_gen.specs.Differences.{different_samples}
 use Rattle.frame_writer.specs.FrameBytes.{samples_of_bytes}
-use Rattle.link_gen.specs.Generator.{generated_samples}
+use Rattle.cmd_gen.specs.Generator.{generated_samples}
 
 -- the bytes of a sample that is not whole yet
 abbrev pub held_back : Bool → Option ℕ → List ℕ

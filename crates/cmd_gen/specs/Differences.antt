@@ -2,7 +2,7 @@
 use Rattle.std.specs.Prelude.{ℕ, suc, ◌+◌, ◌==◌, not, List, [], ◌∷◌, ◌++◌}
 use Rattle.std.specs.List.{flat_map}
 use Rattle.frame_writer.specs.FrameBytes.{samples_of_bytes}
-use Rattle.link_gen.specs.Defaults.{all_generated, shape_of_frames}
+use Rattle.cmd_gen.specs.Defaults.{all_generated, shape_of_frames}
 use Rattle.vc_types.specs.Bits.{digit_of}
 use Rattle.vc_types.specs.Planes.{Planes}
 use Rattle.vc_types.specs.RawFrames.{is_wide}

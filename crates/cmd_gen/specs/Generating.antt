@@ -1,8 +1,8 @@
 -- What generating frames did, by how it ended.
 use Rattle.std.specs.Prelude.{◌≡◌, ℕ, ◌*◌, List, Result, Ok, Err}
 use Rattle.std.specs.List.{flat_map}
-use Rattle.link_gen.specs.Defaults.{all_generated, shape_of_frames}
-use Rattle.link_gen.specs.Generator.{frame_samples}
+use Rattle.cmd_gen.specs.Defaults.{all_generated, shape_of_frames}
+use Rattle.cmd_gen.specs.Generator.{frame_samples}
 use Rattle.link_report.specs.declared.ending.Ending.{Ending}
 use Rattle.link_report.specs.declared.ending.Ending.TheVariants.{NoMemory, OutputFailed}
 use Rattle.link_report.specs.declared.summary.Summary.{Summary}

@@ -1,3 +1,5 @@
+pub mod Generator
+pub mod Defaults
 pub mod Checking
 pub mod Comparing
 pub mod Looping

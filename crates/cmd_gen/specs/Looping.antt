@@ -5,7 +5,7 @@ use Rattle.cmd_gen.specs.Checking.{HasLargeSlice}
 use Rattle.cmd_gen.specs.Comparing.{IsCheckedUpTo}
 use Rattle.cmd_send.specs.FramesSent.{AreSendable, frame_fault, frames_sent}
 use Rattle.cmd_send.specs.Steps.{numbers_after}
-use Rattle.link_gen.specs.Defaults.{all_generated, sent_by_default}
+use Rattle.cmd_gen.specs.Defaults.{all_generated, sent_by_default}
 use Rattle.link_model.specs.SendingFaults as faults
 use Rattle.link_report.specs.declared.ending.Ending.{Ending}
 use Rattle.link_report.specs.declared.ending.Ending.TheVariants.{NoMemory, SampleTooLarge, SliceTooLarge}

@@ -1,6 +1,6 @@
 -- What a loop over generated frames knows.
 use Rattle.std.specs.Prelude.{◌≡◌, ℕ, List, Option, Result, Ok, Err}
-use Rattle.link_gen.specs.Generator.{frame_samples, generated_frame, state_behind}
+use Rattle.cmd_gen.specs.Generator.{frame_samples, generated_frame, state_behind}
 use Rattle.link_report.specs.declared.ending.Ending.{Ending}
 use Rattle.link_report.specs.declared.ending.Ending.TheVariants.{NoMemory, OutputFailed}
 use Rattle.vc_ports.specs.Writing.{Grew, GrewBySome}

@@ -4,9 +4,8 @@ ghost use Rattle.cmd_gen.specs.Differences.{differences};
 ghost use Rattle.vc_types.specs.SenderSettings.{generating_view};
 
 use crate::comparison::Comparison;
-use crate::samples_of;
+use crate::{frame_shape, next_state, sample_of, samples_of};
 use frame_writer::is_wide;
-use link_gen::{frame_shape, next_state, sample_of};
 use vc_types::GenSettings;
 
 impl Comparison {

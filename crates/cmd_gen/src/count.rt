@@ -1,10 +1,10 @@
 ghost use Rattle.std.specs.Prelude.{◌≡◌, ◌*◌, ◌<◌, ◌≤◌, ◌^◌, IsTrue};
 ghost use Rattle.cmd_gen.specs.Generating.{sample_total};
-ghost use Rattle.link_gen.specs.Generator.{frame_samples};
+ghost use Rattle.cmd_gen.specs.Generator.{frame_samples};
 ghost use Rattle.vc_types.specs.Limits.{shape_fits};
 ghost use Rattle.vc_types.specs.SenderSettings.{generating_view};
 
-use link_gen::frame_shape;
+use crate::shape::frame_shape;
 use vc_types::{GenSettings, Shape};
 
 /// How many samples all generated frames have: at most 1,000 frames of three planes of 8,192 by 8,192, so

@@ -1,16 +1,17 @@
 ghost use Rattle.std.specs.Prelude.{◌≡◌, Err, IfErr, IfOk};
 ghost use Rattle.cmd_gen.specs.Generating.{Generates};
 ghost use Rattle.cmd_gen.specs.Steps.{PutsFrame};
-ghost use Rattle.link_gen.specs.Defaults.{shape_of_frames};
-ghost use Rattle.link_gen.specs.Generator.{frame_samples, generated_frame, state_behind};
+ghost use Rattle.cmd_gen.specs.Defaults.{shape_of_frames};
+ghost use Rattle.cmd_gen.specs.Generator.{frame_samples, generated_frame, state_behind};
 ghost use Rattle.vc_ports.specs.Changes.{output_of};
 ghost use Rattle.vc_ports.specs.Faults.{HasCause};
 ghost use Rattle.vc_types.specs.Planes.{planes_in};
 ghost use Rattle.vc_types.specs.SenderSettings.{generating_view};
 
 use crate::count::samples_of;
+use crate::frame::gen_frame;
+use crate::shape::frame_shape;
 use frame_writer::{FrameFault, is_wide, write_frame};
-use link_gen::{frame_shape, gen_frame};
 use link_report::{Ending, Summary};
 use std::alloc::Global;
 use vc_ports::Sink;

@@ -7,8 +7,9 @@ use crate::bytes::byte_count;
 use crate::samples::take_samples;
 use vc_ports::{Filled, Source, fill};
 
-/// How many samples come in in one piece at most: their bytes stay in the cache until they are samples.
-pub(crate) const PIECE: usize = 8_192;
+/// How many samples come in in one piece at most, so that it has at most 65,536 bytes, which one read of a
+/// source can give and which stay in the cache until they are samples.
+pub(crate) const PIECE: usize = 32_768;
 
 /// Why not all samples of a plane were taken.
 #[derive(Clone, Copy)]

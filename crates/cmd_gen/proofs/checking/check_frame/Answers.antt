@@ -1,7 +1,7 @@
 use Rattle.std.proofs.Common.{◌≡◌, ◌∙◌, ℕ, ap, subst, sym}
 use Rattle.cmd_gen.proofs.FrameSteps.{frame_checked, frame_refused}
 use Rattle.cmd_gen.specs.Looping.{IsFrameRefused}
-use Rattle.link_gen.specs.Defaults.{sent_by_default}
+use Rattle.cmd_gen.specs.Defaults.{sent_by_default}
 use Rattle.link_model.specs.SendingPictures.{Need, chosen_index, wants_lengths}
 use Rattle.link_receiver.proofs.Asked.{asked_none}
 use Rattle.link_sender.specs.Sent.{IsRefused, IsSent}

@@ -3,10 +3,10 @@ use Rattle.std.specs.Prelude.{Result, length}
 use Rattle.link_report.specs.declared.ending.Ending.{Ending}
 use Rattle.std.proofs.Common.{◌≡◌, ◌+◌, ◌*◌, ◌^◌, ◌<◌, ◌∙◌, ℕ, Err, ap, subst, sym, refl, rules, arith}
 use Rattle.cmd_gen.proofs.FrameSteps.{none_checked, one_more_checked, one_refused}
-use Rattle.link_gen.proofs.Frames.{behind_one_frame_more, generated_count}
-use Rattle.link_gen.proofs.SizedFrames.{is_frame}
-use Rattle.link_gen.specs.Defaults.{shape_of_frames}
-use Rattle.link_gen.specs.Generator.{frame_samples, generated_frames, state_behind}
+use Rattle.cmd_gen.proofs.Frames.{behind_one_frame_more, generated_count}
+use Rattle.cmd_gen.proofs.SizedFrames.{is_frame}
+use Rattle.cmd_gen.specs.Defaults.{shape_of_frames}
+use Rattle.cmd_gen.specs.Generator.{frame_samples, generated_frames, state_behind}
 use Rattle.link_model.specs.SendingPictures.{IsFrame}
 use Rattle.link_receiver.proofs.Asked.{asked_none, asked_twice}
 use Rattle.vc_types.specs.SenderSettings.{generating_view}

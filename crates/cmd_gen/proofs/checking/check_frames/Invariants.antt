@@ -1,8 +1,8 @@
 use Rattle.std.proofs.Common.{◌≡◌, ◌*◌, ℕ, []}
 use Rattle.cmd_gen.specs.Comparing.{IsCheckedUpTo}
 use Rattle.cmd_gen.specs.Looping.{HasChecked}
-use Rattle.link_gen.specs.Defaults.{shape_of_frames}
-use Rattle.link_gen.specs.Generator.{frame_samples, generated_frames, state_behind}
+use Rattle.cmd_gen.specs.Defaults.{shape_of_frames}
+use Rattle.cmd_gen.specs.Generator.{frame_samples, generated_frames, state_behind}
 use Rattle.link_receiver.specs.HeardLists.{AskedPlaces}
 use Rattle.link_slices.specs.Calls.{PlacesAreBelow}
 use Rattle.vc_types.specs.SenderSettings.{generating_view}

@@ -3,7 +3,7 @@ use Rattle.cmd_gen.specs.Checking.{checked_stream}
 use Rattle.cmd_gen.proofs.FrameSteps.{stream_checked}
 use Rattle.cmd_send.proofs.TakingFrames.{end_is}
 use Rattle.cmd_send.specs.FramesSent.{frames_sent}
-use Rattle.link_gen.specs.Defaults.{all_generated, sent_by_default}
+use Rattle.cmd_gen.specs.Defaults.{all_generated, sent_by_default}
 use Rattle.link_model.specs.Packets.{End}
 use Rattle.link_model.specs.Sending.{high_half}
 use Rattle.link_receiver.proofs.Asked.{asked_none, asked_twice}

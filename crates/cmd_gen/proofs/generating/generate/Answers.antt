@@ -3,9 +3,9 @@ use Rattle.std.specs.Prelude.{Result}
 use Rattle.cmd_gen.proofs.Writing.{none_behind, none_written, stopped, written_more}
 use Rattle.cmd_gen.specs.Generating.{raw_bytes_of_frames}
 use Rattle.cmd_gen.specs.Steps.{next_bytes}
-use Rattle.link_gen.proofs.Frames.{behind_one_frame_more}
-use Rattle.link_gen.specs.Defaults.{shape_of_frames}
-use Rattle.link_gen.specs.Generator.{frame_samples, generated_frames, state_behind}
+use Rattle.cmd_gen.proofs.Frames.{behind_one_frame_more}
+use Rattle.cmd_gen.specs.Defaults.{shape_of_frames}
+use Rattle.cmd_gen.specs.Generator.{frame_samples, generated_frames, state_behind}
 use Rattle.link_report.specs.declared.ending.Ending.{Ending}
 use Rattle.link_report.specs.declared.ending.Ending.TheVariants as endings
 use Rattle.vc_ports.specs.Changes.{output_of}

@@ -1,7 +1,7 @@
 use Rattle.std.proofs.Common.{◌≡◌, ◌≤◌, ◌*◌}
 use Rattle.cmd_gen.specs.Generating.{raw_bytes_of_frames}
-use Rattle.link_gen.specs.Defaults.{shape_of_frames}
-use Rattle.link_gen.specs.Generator.{frame_samples, generated_frames, state_behind}
+use Rattle.cmd_gen.specs.Defaults.{shape_of_frames}
+use Rattle.cmd_gen.specs.Generator.{frame_samples, generated_frames, state_behind}
 use Rattle.vc_ports.specs.Writing.{Grew}
 use Rattle.vc_types.specs.SenderSettings.{generating_view}
 use Rattle.cmd_gen.proofs.generating.generate.Given as goal

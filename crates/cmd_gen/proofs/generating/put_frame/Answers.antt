@@ -1,7 +1,7 @@
 use Rattle.std.proofs.Common.{ap, sym, subst, ◌∙◌}
 use Rattle.frame_writer.specs.Samples.{HaveByteSamples}
 use Rattle.cmd_gen.proofs.ByteSamples.{byte_samples}
-use Rattle.link_gen.specs.Defaults.{shape_of_frames}
+use Rattle.cmd_gen.specs.Defaults.{shape_of_frames}
 use Rattle.vc_types.specs.RawFrames.{is_wide}
 use Rattle.vc_types.specs.SenderSettings.{generating_view}
 use Rattle.cmd_gen.proofs.generating.put_frame.Goals as goal

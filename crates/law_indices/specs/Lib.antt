@@ -1,4 +1,0 @@
-pub mod HeardStreams
-pub mod FramesToSend
-pub mod IndexZero
-pub mod Budgets

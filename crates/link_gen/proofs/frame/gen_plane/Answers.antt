@@ -1,6 +1,0 @@
-use Rattle.std.proofs.Common.{length, ap, ◌∙◌, ◌*◌}
-use Rattle.link_gen.proofs.States.{samples_count}
-use Rattle.link_gen.proofs.frame.gen_plane.Goals as goal
-
-pub new-requires : goal.new-requires
-new-requires c = ap length c.in_ok-samples.ensures.samples ∙ samples_count c.args.depth c.args.state (c.args.width * c.args.height)

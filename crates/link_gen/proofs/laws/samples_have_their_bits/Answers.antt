@@ -1,5 +1,0 @@
-use Rattle.link_gen.proofs.States.{samples_below}
-use Rattle.link_gen.proofs.laws.samples_have_their_bits.Goals as goal
-
-pub returns : goal.returns
-returns c = samples_below
