@@ -1,6 +1,6 @@
 -- Slices that are read one after another.
 use Rattle.std.proofs.Common.{◌≡◌, ℕ, suc, ◌+◌, ◌-◌, ◌<◌, ◌≤◌, List, [], ◌∷◌, ◌++◌, take, drop, Some, None, Ok, Err, refl, sym, ap, ◌∙◌, arith, append_assoc, append-nil}
-use Rattle.std.specs.Prelude.{Result, Bool, true, false, IfOk}
+use Rattle.std.specs.Prelude.{Result, Bool, true, false}
 use Rattle.picture_build.specs.Kept.{PartPicture}
 use Rattle.std.specs.Result.{result_ok}
 use Rattle.std.proofs.lemmas.Grind.{common_steps}
@@ -39,15 +39,10 @@ module _ (p : Parameters) where
   gave-answer i len old piece new (Err why) is front rest decoded = λ n. slices_from-unsound p i n len old why is (rw front at (sym decoded))
 
   -- a slice of which it is known what its bytes are
-  took : (i len : ℕ) (old piece new : List ℕ) (before after : PartPicture) (came : Bool) → slice_length p.prefix p.scaler old ≡ Some len → piece ≡ take len old → new ≡ drop len old
+  pub took : (i len : ℕ) (old piece new : List ℕ) (before after : PartPicture) (came : Bool) → slice_length p.prefix p.scaler old ≡ Some len → piece ≡ take len old → new ≡ drop len old
       → TookWhole p i piece before after came → TookSlice p i old new before after came
   took i len old piece new before after true is front rest whole = (whole.0, gave-answer i len old piece new (Ok whole.0) is front rest (sym whole.1), whole.2)
   took i len old piece new before after false is front rest whole = gave-answer i len old piece new (Err whole.0) is front rest (sym whole.1)
-
-  pub took-if : {E : Type 0} (i len : ℕ) (old piece new : List ℕ) (before after : PartPicture) (result : Result Bool E) → slice_length p.prefix p.scaler old ≡ Some len → piece ≡ take len old → new ≡ drop len old
-      → IfOk result (TookWhole p i piece before after) → IfOk result (TookSlice p i old new before after)
-  took-if i len old piece new before after (Ok came) is front rest whole = took i len old piece new before after came is front rest whole
-  took-if i len old piece new before after (Err e) is front rest whole = whole
 
   -- a slice more, of n
   pub behind-slice : (i n : ℕ) (old new : List ℕ) (done : List Coefficients) (s : Coefficients) → i < n → GaveSlice p i old new (Some s)

@@ -1,9 +1,9 @@
-ghost use Rattle.std.specs.Prelude.{◌≡◌, ◌<◌, None, Some, IfOk, length};
+ghost use Rattle.std.specs.Prelude.{◌≡◌, ◌<◌, [], None, Some, true, IfOk, MatchOption, length};
 ghost use Rattle.vc_types.specs.Slices.{slice_length};
 ghost use Rattle.vc_types.specs.Subbands.{slice_count};
 ghost use Rattle.vc_types.specs.TransformParameters.{parameters_of};
 ghost use Rattle.picture_build.specs.Kept.{no_slices, slice_that_came};
-ghost use Rattle.cmd_stream.specs.Slices.{TookSlice, TookSlices, TookWhole};
+ghost use Rattle.cmd_stream.specs.Slices.{GaveSlice, TookSlice, TookSlices, TookWhole};
 
 use bytes::Bytes;
 use picture_build::{NotPut, PictureBuilder};
@@ -23,35 +23,43 @@ pub(crate) fn take_slices(
     requires { builder.old ≡ no_slices (parameters_of plan.now) }
     ensures value { IfOk result (TookSlices (parameters_of plan.now) bytes builder.new) }
 {
-    let mut rest = bytes;
+    let mut rest = bytes.as_slice();
     for index in 0..plan.slices_x * plan.slices_y {
-        if !take_slice(alloc, plan, number, index, &mut rest, builder)? {
-            return Ok(false);
+        match take_slice(alloc, plan, number, index, rest, builder)? {
+            Some(behind) => rest = behind,
+            None => return Ok(false),
         }
     }
     Ok(true)
 }
 
-// Takes the slice at the front of the bytes, and puts it into the builder.
-fn take_slice(
+// Puts the slice at the front of the bytes into the builder: the bytes behind it, or none where it is cut
+// short or unsound.
+fn take_slice<'a>(
     alloc: Global,
     plan: &Plan,
     number: u32,
     index: u32,
-    rest: &mut Bytes,
+    rest: &'a [u8],
     builder: &mut PictureBuilder,
-) -> Result<bool, NoMemory>
+) -> Result<Option<&'a [u8]>, NoMemory>
     requires plan { builder.old.parameters ≡ parameters_of plan.now }
     requires index { index < slice_count (parameters_of plan.now) }
     requires once { slice_that_came builder.old index ≡ None }
-    ensures value { IfOk result (TookSlice (parameters_of plan.now) index rest.old rest.new
-        builder.old builder.new) }
+    ensures value { IfOk result (λ taken. MatchOption taken
+        (GaveSlice (parameters_of plan.now) index rest.now [] None)
+        (λ behind. TookSlice (parameters_of plan.now) index rest.now behind.now
+        builder.old builder.new true)) }
 {
-    let Ok(len) = cut(plan.prefix, plan.scaler, rest.as_slice()) else {
-        return Ok(false);
+    let Ok(len) = cut(plan.prefix, plan.scaler, rest) else {
+        return Ok(None);
     };
-    let bytes = rest.split_to(len)?;
-    put_slice(alloc, plan, number, index, bytes, builder)
+    let (bytes, behind) = rest.split_at(len);
+    if put_slice(alloc, plan, number, index, bytes, builder)? {
+        Ok(Some(behind))
+    } else {
+        Ok(None)
+    }
 }
 
 // Decodes a slice to its place, or by itself where it may be too wide for that.
@@ -60,17 +68,18 @@ fn put_slice(
     plan: &Plan,
     number: u32,
     index: u32,
-    bytes: Bytes,
+    bytes: &[u8],
     builder: &mut PictureBuilder,
 ) -> Result<bool, NoMemory>
     requires plan { builder.old.parameters ≡ parameters_of plan.now }
     requires index { index < slice_count (parameters_of plan.now) }
     requires once { slice_that_came builder.old index ≡ None }
-    requires whole { slice_length plan.now.prefix plan.now.scaler bytes ≡ Some (length bytes) }
-    ensures value { IfOk result (TookWhole (parameters_of plan.now) index bytes
+    requires whole { slice_length plan.now.prefix plan.now.scaler bytes.now
+        ≡ Some (length bytes.now) }
+    ensures value { IfOk result (TookWhole (parameters_of plan.now) index bytes.now
         builder.old builder.new) }
 {
-    match builder.put(index, bytes.as_slice()) {
+    match builder.put(index, bytes) {
         Ok(()) => Ok(true),
         Err(NotPut::Unsound(_)) => Ok(false),
         Err(NotPut::Wide) => {
@@ -78,10 +87,21 @@ fn put_slice(
                 plan: *plan,
                 number: number as u64,
                 index,
-                bytes,
+                bytes: copied(alloc, bytes)?,
             };
             fill_slice(alloc, job, builder)
         }
+    }
+}
+
+fn copied(alloc: Global, bytes: &[u8]) -> Result<Bytes, NoMemory>
+    ensures { IfOk result (λ copy. copy ≡ bytes.now) }
+{
+    let mut copy = Vec::with_capacity(alloc, bytes.len())?;
+    copy.extend_from_slice(bytes)?;
+    match Bytes::from_vec(copy) {
+        Ok(bytes) => Ok(bytes),
+        Err(_) => Err(NoMemory),
     }
 }
 

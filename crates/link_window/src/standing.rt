@@ -16,7 +16,7 @@ ghost use Rattle.link_window.specs.Views.{sent_fragment, releasable_of};
 ghost use Rattle.vc_types.specs.SequenceHeader.{coded_header, sequence_of};
 
 use crate::heard::Opening;
-use crate::jobs::{has_job, has_slice_of, jobs_of};
+use crate::jobs::{has_job, has_run, has_slice_of, jobs_of};
 use crate::{Fragment, Released, Window};
 use link_gather::PictureBook;
 use link_model::Outcome;
@@ -233,11 +233,12 @@ impl Standing {
         ensures { result ≡ list_all (λ job. option_map_or (is_same_job job)
             (unreleased_job self.now job.number job.index) false) (jobs_of_run run.now) }
     {
-        for k in 0..run.slices.len() {
-            if !self.is_own_slice(run, k) {
-                return false;
-            }
+        if self.window.is_released(run.number) {
+            return false;
         }
-        true
+        match self.window.book(run.number) {
+            Some(book) => has_run(book, run),
+            None => false,
+        }
     }
 }

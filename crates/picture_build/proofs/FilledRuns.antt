@@ -1,9 +1,9 @@
--- The slices of a run that are put into cells together, subband by subband: none is written over.
+-- The slices of a run that are put into cells together, subband by subband: none is written over. Of the cells some are seen.
 use Rattle.std.proofs.Common.{◌≡◌, ◌≢◌, ℕ, ◌+◌, ◌-◌, ◌<◌, ◌≤◌, List, ℤ, arith, ap, sym, subst, ◌∙◌, inl, inr}
 use Rattle.std.proofs.lemmas.Bool.{cases_lt}
 use Rattle.vc_types.specs.declared.rect.Rect.{Rect}
 use Rattle.vc_types.specs.declared.video.Component.{Component}
-use Rattle.vc_types.specs.Lifting.{line_of}
+use Rattle.vc_types.specs.Lifting.{Line, line_of}
 use Rattle.vc_types.specs.Quantisation.{subband_count}
 use Rattle.vc_types.specs.Subbands.{area, place_in, subband_at, slice_coefficient_count, padded_width}
 use Rattle.vc_types.specs.TransformParameters.{Parameters}
@@ -17,14 +17,18 @@ use Rattle.vc_slice.proofs.StripPlaces.{stands}
 use Rattle.picture_build.specs.Kept.{kept_at}
 use Rattle.picture_build.proofs.PlacedNumbers.{kept_apart}
 
-module _ (p : Parameters) (c : Component) (first count : ℕ) where
+-- all cells are
+abbrev pub AllSeen : ℕ → Type 0
+AllSeen m = Unit {0}
+
+module _ (p : Parameters) (c : Component) (first count : ℕ) (IsSeen : ℕ → Type 0) where
   -- of each slice of the run, the coefficients of the first subbands stand in the cells
-  abbrev pub FirstOfRun : List ℤ → ℕ → List ℤ → Type 0
-  FirstOfRun strip b cells = (k i : ℕ) → k < count → i < coefficients_before p c (first + k) b → line_of cells (kept_at p c (first + k) i) ≡ line_of strip (strip_number p c first count (first + k) i)
+  abbrev pub FirstOfRun : List ℤ → ℕ → Line → Type 0
+  FirstOfRun strip b cells = (k i : ℕ) → k < count → i < coefficients_before p c (first + k) b → IsSeen (kept_at p c (first + k) i) → cells (kept_at p c (first + k) i) ≡ line_of strip (strip_number p c first count (first + k) i)
 
   -- cells of no slice of the run are as before
-  abbrev pub OthersOfRun : List ℤ → List ℤ → Type 0
-  OthersOfRun old cells = (m : ℕ) → ((k i : ℕ) → k < count → i < slice_coefficient_count p c (first + k) → m ≢ kept_at p c (first + k) i) → line_of cells m ≡ line_of old m
+  abbrev pub OthersOfRun : Line → Line → Type 0
+  OthersOfRun old cells = (m : ℕ) → IsSeen m → ((k i : ℕ) → k < count → i < slice_coefficient_count p c (first + k) → m ≢ kept_at p c (first + k) i) → cells m ≡ old m
 
   module _ (run : IsRun p first count) (some_across : 0 < p.slices_x) (some_down : 0 < p.slices_y) (strip : List ℤ) (b from : ℕ) (whole : Rect) (inside : b < subband_count p.depth_ho p.depth)
       (is : whole ≡ run_rectangle p c first count (subband_at p.depth_ho p.depth b)) (at : from ≡ run_before p c first count b) where
@@ -62,18 +66,18 @@ module _ (p : Parameters) (c : Component) (first count : ℕ) where
           kept = ap (λ q. cell_number stride (place_in q j)) is ∙ ap (cell_number stride) (sym of.place) ∙ ap (cell_number stride) (sym (walked p c (first + of.k) b inside of.cell of.cell_below));
         }
 
-    module _ (old new : List ℤ) (on : (j : ℕ) → j < area whole → line_of new (cell_number stride (place_in whole j)) ≡ line_of strip (from + j))
-        (off : (m : ℕ) → ((j : ℕ) → j < area whole → m ≢ cell_number stride (place_in whole j)) → line_of new m ≡ line_of old m) where
+    module _ (old new : Line) (on : (j : ℕ) → j < area whole → IsSeen (cell_number stride (place_in whole j)) → new (cell_number stride (place_in whole j)) ≡ line_of strip (from + j))
+        (off : (m : ℕ) → IsSeen m → ((j : ℕ) → j < area whole → m ≢ cell_number stride (place_in whole j)) → new m ≡ old m) where
       pub run-stands : FirstOfRun strip b old → FirstOfRun strip (b + 1) new
-      run-stands before k i hk hi = elim (cases_lt i (coefficients_before p c (first + k) b)) [
+      run-stands before k i hk hi seen = elim (cases_lt i (coefficients_before p c (first + k) b)) [
         | inl low ↦ (
             let below = walked-below p c (first + k) b inside in
-            off (kept_at p c (first + k) i) (λ j g e. (
+            off (kept_at p c (first + k) i) seen (λ j g e. (
             let q = kept-by j g in
             let same = kept_apart p c some_across some_down (first + k) i (first + q.k) q.i (numbered p c first count run k hk) (omega (arith, low, below)) (numbered p c first count run q.k q.k_below) q.i_below (e ∙ q.kept) in
             let slice : q.k ≡ k = omega (arith, same.0) in
             let from_here = subst (λ l. coefficients_before p c (first + l) b ≤ q.i) slice q.i_from in
-            omega (arith, same.1, from_here, low))) ∙ before k i hk low)
+            omega (arith, same.1, from_here, low))) ∙ before k i hk low seen)
         | inr ge ↦ (
             let r = rectangle p c (first + k) b in
             let part : IsPartOf r whole = subst (IsPartOf r) (sym is) (within-run p c first count run k hk (subband_at p.depth_ho p.depth b)) in
@@ -81,18 +85,19 @@ module _ (p : Parameters) (c : Component) (first count : ℕ) where
             let j = i - coefficients_before p c (first + k) b in
             let here : j < area r = omega (arith, more, hi, ge) in
             let number : coefficients_before p c (first + k) b + j ≡ i = omega (arith, ge) in
-            ap (λ n. line_of new (kept_at p c (first + k) n)) (sym number)
-            ∙ ap (λ q. line_of new (cell_number stride q)) (walked p c (first + k) b inside j here ∙ sym (cell-place r whole part j here))
-            ∙ on (cell_of whole (place_in r j)) (cell-below r whole part j here)
+            let cell : kept_at p c (first + k) i ≡ cell_number stride (place_in whole (cell_of whole (place_in r j))) =
+            ap (λ n. kept_at p c (first + k) n) (sym number) ∙ ap (cell_number stride) (walked p c (first + k) b inside j here ∙ sym (cell-place r whole part j here)) in
+            ap new cell
+            ∙ on (cell_of whole (place_in r j)) (cell-below r whole part j here) (subst IsSeen cell seen)
             ∙ ap (λ q. line_of strip (from + cell_of q (place_in r j))) is
             ∙ ap (λ n. line_of strip (n + cell_of (run_rectangle p c first count (subband_at p.depth_ho p.depth b)) (place_in r j))) at
             ∙ ap (line_of strip) ((stands p c first count (first + k) run (record { from = omega arith; to = omega (arith, hk) }) some_across some_down).cell b j inside here)
             ∙ ap (λ n. line_of strip (strip_number p c first count (first + k) n)) number)
       ]
 
-      pub run-stays : (begun : List ℤ) → OthersOfRun begun old → OthersOfRun begun new
-      run-stays begun before m none = off m (λ j g e. (let q = kept-by j g in none q.k q.i q.k_below q.i_below (e ∙ q.kept))) ∙ before m none
+      pub run-stays : (begun : Line) → OthersOfRun begun old → OthersOfRun begun new
+      run-stays begun before m seen none = off m seen (λ j g e. (let q = kept-by j g in none q.k q.i q.k_below q.i_below (e ∙ q.kept))) ∙ before m seen none
 
-  pub run-all : (strip : List ℤ) (b : ℕ) (cells : List ℤ) → b ≡ subband_count p.depth_ho p.depth → FirstOfRun strip b cells
-      → (k i : ℕ) → k < count → i < slice_coefficient_count p c (first + k) → line_of cells (kept_at p c (first + k) i) ≡ line_of strip (strip_number p c first count (first + k) i)
+  pub run-all : (strip : List ℤ) (b : ℕ) (cells : Line) → b ≡ subband_count p.depth_ho p.depth → FirstOfRun strip b cells
+      → (k i : ℕ) → k < count → i < slice_coefficient_count p c (first + k) → IsSeen (kept_at p c (first + k) i) → cells (kept_at p c (first + k) i) ≡ line_of strip (strip_number p c first count (first + k) i)
   run-all strip b cells e before k i hk hi = before k i hk (let all = coefficients_before-all p c (first + k) b e in omega (arith, all, hi))

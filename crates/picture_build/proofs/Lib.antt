@@ -24,3 +24,5 @@ pub mod KeptRuns
 pub mod RunSlices
 pub mod LargestSlices
 pub mod WaitingRuns
+pub mod RectRows
+pub mod HalvedRuns

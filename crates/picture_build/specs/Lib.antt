@@ -7,3 +7,4 @@ pub mod Output
 pub mod OfPlan
 pub mod Waiting
 pub mod Marks
+pub mod Halves

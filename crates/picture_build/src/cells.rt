@@ -7,13 +7,21 @@ ghost use Rattle.vc_slice.specs.Bands.{coefficient_count, numbered_in};
 ghost use Rattle.vc_slice.specs.Numbers.{AreUpTo};
 ghost use Rattle.vc_geometry.specs.CellRects.{ChangesRect, ChangesRow, HasRow, LiesIn, cell_in};
 ghost use Rattle.picture_build.specs.PartsKept.{AreCells, ChangesPart, PutsCoefficients, place_kept};
+ghost use Rattle.picture_build.specs.Waiting.{AreWaitingRuns, FillsRuns};
+ghost use Rattle.vc_types.specs.OfPlan.{padded_height, padded_width};
+ghost use Rattle.vc_types.specs.TransformParameters.{parameters_of};
 
 use crate::dequantising::put_dequantised;
+use crate::filling::place_runs;
+use crate::halves::place_halves;
+use crate::touching::touch_rect;
+use crate::waiting::WaitingRun;
 use std::alloc::Global;
 use std::marker::Model;
+use std::thread::Threads;
 use vc_geometry::{CellRect, bands as band_count, padded};
 use vc_slice::{SliceBands, SliceParts, TooWide};
-use vc_types::{Component, NoMemory};
+use vc_types::{Component, NoMemory, Plan};
 
 // What one in the high part of a cell counts.
 const HIGH: i64 = 1 << 30;
@@ -68,6 +76,14 @@ impl CoefficientCells {
         }
     }
 
+    /// Reads cells of a rectangle, so that it is in the cache when coefficients come to it. What is read is
+    /// of no use.
+    pub(crate) fn touch(&self, to: &CellRect) -> i32
+        requires { LiesIn to.now self.now }
+    {
+        touch_rect(&self.low, to)
+    }
+
     /// Copies so many numbers, from one of them on, to cells from one of them on.
     pub(crate) fn put_row(&mut self, at: usize, numbers: &[i32], from: usize, width: usize)
         requires at { at + width ≤ length self.old }
@@ -79,6 +95,27 @@ impl CoefficientCells {
         copy_row(&mut self.low, at, numbers, from, width);
         if self.is_wide {
             clear_row(&mut self.high, at, width);
+        }
+    }
+
+    /// Puts runs at their places, in the upper half and in the lower one side by side, by join; one after
+    /// another where some coefficient is wide.
+    pub(crate) fn place_halves<H: Threads>(
+        &mut self,
+        rt: &H,
+        plan: &Plan,
+        c: Component,
+        runs: &[WaitingRun],
+    )
+        requires runs { AreWaitingRuns (parameters_of plan.now) runs.now }
+        requires cells { length self.old
+            ≡ padded_height plan.now c * padded_width plan.now c }
+        ensures { FillsRuns (parameters_of plan.now) c runs.now self.old self.new }
+    {
+        if self.is_wide {
+            place_runs(plan, c, runs, self);
+        } else {
+            place_halves(rt, plan, c, runs, &mut self.low);
         }
     }
 
@@ -153,8 +190,9 @@ fn parts(number: i64) -> (i32, i32)
     ((number / HIGH) as i32, (number % HIGH) as i32)
 }
 
+/// Copies so many numbers, from one of them on, to cells from one of them on.
 #[inline(always)]
-fn copy_row(cells: &mut [i32], at: usize, numbers: &[i32], from: usize, width: usize)
+pub(crate) fn copy_row(cells: &mut [i32], at: usize, numbers: &[i32], from: usize, width: usize)
     requires at { at + width ≤ length cells.old }
     requires from { from + width ≤ length numbers.now }
     ensures on { HasRow width at cells.new from numbers.now }

@@ -18,13 +18,13 @@ ghost use Rattle.vc_types.specs.OfPlan.{AreSliceCoefficients, all_coefficients, 
 ghost use Rattle.vc_types.specs.OfPlan.{slice_coefficient_count, slice_coefficients, slice_count};
 
 use crate::cells::CoefficientCells;
+use crate::run_rects::RunRects;
 use crate::waiting::WaitingRun;
 use crate::wide::{place_wide, put_wide_numbers};
 use std::thread::{Threads, join_mut};
 use vc_geometry::{CellRect, bands as band_count, padded};
 use vc_slice::{
-    CodedSlice, CoefficientList, RunParts, SliceBands, SliceCoeffs, SliceParts, TooWide,
-    read_numbers,
+    CodedSlice, CoefficientList, SliceBands, SliceCoeffs, SliceParts, TooWide, read_numbers,
 };
 use vc_types::{Component, Plan};
 
@@ -228,12 +228,12 @@ pub(crate) fn place_runs(
     ensures { FillsRuns (parameters_of plan.now) c runs.now cells.old cells.new }
 {
     for waiting in runs {
-        let run = RunParts::new(plan, waiting.first, waiting.count);
-        place_run(&run, c, waiting.strip.component(c), cells);
+        let run = RunRects::new(plan, c, waiting.first, waiting.count);
+        place_run(&run, waiting.strip.component(c), cells);
     }
 }
 
-/// The same of the three components, side by side, by join.
+/// The same of the three components, side by side, by join: luma's in two halves.
 pub(crate) fn place_runs_joined<H: Threads>(
     rt: &H,
     plan: &Plan,
@@ -274,23 +274,24 @@ fn place_beside<H: Threads>(
     join_mut(
         rt,
         &mut || place_runs(plan, Component::C2, runs, c2),
-        &mut || place_runs(plan, Component::Y, runs, y),
+        &mut || y.place_halves(rt, plan, Component::Y, runs),
     );
 }
 
 // Puts a component of a run at its places: each subband's rectangle of the run, row by row.
-fn place_run(run: &RunParts, c: Component, strip: &[i32], cells: &mut CoefficientCells)
+fn place_run(run: &RunRects, strip: &[i32], cells: &mut CoefficientCells)
     requires strip { length strip.now
-        ≡ run_coefficient_count run.now.plan c run.now.first run.now.count }
+        ≡ run_coefficient_count run.now.plan run.now.component run.now.first run.now.count }
     requires cells { length cells.old
-        ≡ padded_height run.now.plan c * padded_width run.now.plan c }
-    ensures { FillsRun (parameters_of run.now.plan) c run.now.first run.now.count
-        strip.now cells.old cells.new }
+        ≡ padded_height run.now.plan run.now.component
+        * padded_width run.now.plan run.now.component }
+    ensures { FillsRun (parameters_of run.now.plan) run.now.component run.now.first
+        run.now.count strip.now cells.old cells.new }
 {
-    let (width, _) = padded(&run.plan, c);
+    let (width, _) = padded(&run.plan, run.component);
     let mut from = 0;
     for b in 0..band_count(&run.plan) {
-        let rect = run.rect(c, b);
+        let rect = run.rect(b);
         let to = CellRect {
             rect,
             stride: width as usize,

@@ -8,6 +8,7 @@ mod cells;
 mod dequantising;
 mod filling;
 mod finishing;
+mod halves;
 mod laws;
 mod long;
 mod marking;
@@ -15,7 +16,9 @@ mod narrow;
 mod output;
 mod placed;
 mod room;
+mod run_rects;
 mod sizes;
+mod touching;
 mod waiting;
 mod wide;
 

@@ -16,6 +16,7 @@ use crate::filling::{fill_slice, place_runs, place_runs_joined, put_blocks};
 use crate::finishing::{PictureCells, Rooms, planes_at_once, planes_in_turn};
 use crate::marking::mark_runs;
 use crate::sizes::{cell_count, most_coefficients};
+use crate::touching::touch_row;
 use crate::waiting::WaitingRun;
 use std::alloc::Global;
 use std::marker::Model;
@@ -38,6 +39,8 @@ pub(crate) struct PlacedSlices {
     numbers: Vec<i32>,
     // Room for the transform of each component, kept from picture to picture.
     rooms: Rooms,
+    // What was read where slices come next. It is kept so that it is read.
+    touched: i32,
 }
 
 impl Model for PlacedSlices {
@@ -78,6 +81,7 @@ impl PlacedSlices {
             c2,
             numbers,
             rooms: Rooms::new(alloc),
+            touched: 0,
         })
     }
 
@@ -156,6 +160,7 @@ impl PlacedSlices {
         if coded.index > 127 {
             return Err(NotPut::Unsound(Unsound::IndexRange));
         }
+        self.touched = touch_row(&self.plan, index, &self.y, &self.c1, &self.c2);
         match put_blocks(
             &self.plan,
             index,

@@ -51,3 +51,19 @@ pair_added numbers i before after below so_far added =
     (code_more numbers i before (before ++ sint_bits first) (omega arith) so_far refl)
     (added ∙ sym (append_assoc before (sint_bits first) (sint_bits second)))
     ∙ ap (λ (n : ℕ). flat_map sint_bits (take n numbers)) next
+
+-- and two pairs
+pub quad_added : (numbers : List ℤ) (i : ℕ) (before after : List Bool) → i + 3 < length numbers → before ≡ flat_map sint_bits (take i numbers)
+    → after ≡ before ++ ((sint_bits (get_or numbers i (pos 0)) ++ sint_bits (get_or numbers (i + 1) (pos 0))) ++ (sint_bits (get_or numbers (i + 2) (pos 0)) ++ sint_bits (get_or numbers (i + 3) (pos 0))))
+    → after ≡ flat_map sint_bits (take (i + 4) numbers)
+quad_added numbers i before after below so_far added =
+    let pair = sint_bits (get_or numbers i (pos 0)) ++ sint_bits (get_or numbers (i + 1) (pos 0)) in
+    let third = sint_bits (get_or numbers (i + 2) (pos 0)) in
+    let last : i + 3 ≡ i + 2 + 1 = omega arith in
+    let next : i + 2 + 2 ≡ i + 4 = omega arith in
+    pair_added numbers (i + 2) (before ++ pair) after (omega (arith, below))
+    (pair_added numbers i before (before ++ pair) (omega (arith, below)) so_far refl)
+    (added
+    ∙ ap (λ (n : ℕ). before ++ (pair ++ (third ++ sint_bits (get_or numbers n (pos 0))))) last
+    ∙ sym (append_assoc before pair (third ++ sint_bits (get_or numbers (i + 2 + 1) (pos 0)))))
+    ∙ ap (λ (n : ℕ). flat_map sint_bits (take n numbers)) next

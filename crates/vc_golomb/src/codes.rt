@@ -3,11 +3,12 @@ ghost use Rattle.std.specs.Prelude.{◌<ℤ◌, replicate, unsigned_abs, vec_len
 ghost use Rattle.std.specs.List.{flat_map};
 ghost use Rattle.vc_types.specs.Bits.{bits_of};
 ghost use Rattle.vc_types.specs.Codes.{sint_bits};
+ghost use Rattle.vc_types.specs.Lifting.{line_of};
 ghost use Rattle.vc_bits.specs.Bits.{to_edge};
 ghost use Rattle.vc_golomb.specs.Pairs.{IsPair};
 
 use crate::pairs::{is_small, pair_code};
-use crate::short::{SHORT, short_code};
+use crate::short::{SHORT, code_behind, short_code};
 use std::alloc::Global;
 use vc_bits::BitTail;
 use vc_types::NoMemory;
@@ -18,12 +19,26 @@ pub fn sint_codes(alloc: Global, numbers: &[i32]) -> Result<Vec<u8>, NoMemory>
     ensures { IfOk result (λ bytes. bits_of bytes.items ≡ flat_map sint_bits numbers.now
         ++ replicate (to_edge (length (flat_map sint_bits numbers.now))) true) }
 {
+    sint_codes_in(Vec::new(alloc), numbers)
+}
+
+/// The same, in the memory of bytes that are done with.
+pub fn sint_codes_in(used: Vec<u8>, numbers: &[i32]) -> Result<Vec<u8>, NoMemory>
+    requires { length numbers.now < 2 ^ 60 }
+    ensures { IfOk result (λ bytes. bits_of bytes.items ≡ flat_map sint_bits numbers.now
+        ++ replicate (to_edge (length (flat_map sint_bits numbers.now))) true) }
+{
+    let mut bytes = used;
+    bytes.clear();
     // A code has 64 bits at most.
-    let mut bytes = Vec::with_capacity(alloc, 8 * numbers.len() + 4)?;
+    bytes.reserve(8 * numbers.len() + 4)?;
     let mut tail = BitTail::new();
     let mut at = 0;
     'numbers: while at < numbers.len() {
-        if begins_pair(numbers, at) {
+        if begins_quad(numbers, at) {
+            add_quad(&mut bytes, &mut tail, numbers, at);
+            at += 4;
+        } else if begins_pair(numbers, at) {
             add_pair(&mut bytes, &mut tail, numbers[at], numbers[at + 1]);
             at += 2;
         } else {
@@ -42,6 +57,42 @@ fn begins_pair(numbers: &[i32], at: usize) -> bool
     ensures { result ≡ true → IsPair numbers.now at }
 {
     at + 1 < numbers.len() && is_small(numbers[at]) && is_small(numbers[at + 1])
+}
+
+// Whether two pairs of such numbers stand from one of them on.
+#[inline(always)]
+fn begins_quad(numbers: &[i32], at: usize) -> bool
+    requires { at < length numbers.now }
+    ensures first { result ≡ true → IsPair numbers.now at }
+    ensures second { result ≡ true → IsPair numbers.now (at + 2) }
+{
+    if numbers.len() - at < 4 {
+        return false;
+    }
+    let first = numbers[at];
+    let second = numbers[at + 1];
+    let third = numbers[at + 2];
+    let fourth = numbers[at + 3];
+    is_small(first) && is_small(second) && is_small(third) && is_small(fourth)
+}
+
+// The codes of two pairs are added at once.
+#[inline(always)]
+fn add_quad(bytes: &mut Vec<u8>, tail: &mut BitTail, numbers: &[i32], at: usize)
+    requires first { IsPair numbers.now at }
+    requires second { IsPair numbers.now (at + 2) }
+    requires room { 8 * vec_len bytes.old + length tail.old + 96 ≤ 8 * vec_capacity bytes.old }
+    ensures bits { bits_of bytes.new.items ++ tail.new ≡ (bits_of bytes.old.items ++ tail.old)
+        ++ ((sint_bits (line_of numbers.now at) ++ sint_bits (line_of numbers.now (at + 1)))
+        ++ (sint_bits (line_of numbers.now (at + 2)) ++ sint_bits (line_of numbers.now (at + 3)))) }
+    ensures len { 8 * vec_len bytes.new + length tail.new
+        ≤ 8 * vec_len bytes.old + length tail.old + 64 }
+    ensures capacity { vec_capacity bytes.new ≡ vec_capacity bytes.old }
+{
+    let first = pair_code(numbers[at], numbers[at + 1]);
+    let second = pair_code(numbers[at + 2], numbers[at + 3]);
+    let code = code_behind(first, second);
+    tail.add(bytes, code.bits, code.count);
 }
 
 #[inline(always)]

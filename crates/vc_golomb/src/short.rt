@@ -45,6 +45,23 @@ pub(crate) fn behind_ones(ones: u32, code: ShortCode) -> ShortCode
     }
 }
 
+/// Two codes, one behind the other.
+#[inline(always)]
+pub(crate) fn code_behind(first: ShortCode, second: ShortCode) -> ShortCode
+    requires counts { (first.count ≤ 16) × (second.count ≤ 16) }
+    requires first { first.bits < 2 ^ first.count }
+    requires second { second.bits < 2 ^ second.count }
+    ensures value { word_bits result.count result.bits
+        ≡ word_bits first.count first.bits ++ word_bits second.count second.bits }
+    ensures count { result.count ≤ 32 }
+    ensures range { result.bits < 2 ^ result.count }
+{
+    ShortCode {
+        bits: (first.bits << second.count) + second.bits,
+        count: first.count + second.count,
+    }
+}
+
 // The codes of 0 and of the positive numbers. The last bit of the others is the sign.
 static CODES: [u16; 255] = [
     1, 2, 6, 2, 6, 18, 22, 2, 6, 18, 22, 66, 70, 82, 86, 2, 6, 18, 22, 66, 70, 82, 86, 258, 262,

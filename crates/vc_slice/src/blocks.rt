@@ -1,44 +1,28 @@
 ghost use Rattle.std.specs.Prelude.{◌≡◌, ◌++◌, ◌∷◌, [], ◌*◌, ◌<◌, ◌≤◌, ◌||◌, nat_lt};
 ghost use Rattle.std.specs.Prelude.{length, replicate, IfOk, OnOk};
-ghost use Rattle.vc_types.specs.declared.video.Component.TheVariants.{Y, C1, C2};
 ghost use Rattle.vc_types.specs.Bits.{bits_of};
-ghost use Rattle.vc_slice.specs.Bands.{AreCoefficients, codes_at};
-ghost use Rattle.vc_slice.specs.Inside.{padded_block, units_for, up_to_bytes};
+ghost use Rattle.vc_slice.specs.Inside.{padded_block, units_for};
 
-use crate::bands::{SliceBands, SliceParts};
-use crate::coeffs::SliceCoeffs;
-use crate::writing::codes_of;
 use std::alloc::Global;
-use vc_types::{Component, NoMemory, Plan};
+use vc_types::{NoMemory, Plan};
 
 /// The codes of a slice's three blocks, each with ones up to whole bytes.
 #[derive(Drop)]
 pub(crate) struct Blocks {
-    y: Vec<u8>,
-    c1: Vec<u8>,
-    c2: Vec<u8>,
+    pub(crate) y: Vec<u8>,
+    pub(crate) c1: Vec<u8>,
+    pub(crate) c2: Vec<u8>,
 }
 
-pub(crate) fn blocks_of(
-    alloc: Global,
-    parts: &SliceParts,
-    coeffs: &SliceCoeffs,
-    q: u8,
-) -> Result<Blocks, NoMemory>
-    requires coefficients { AreCoefficients parts.now coeffs.now }
-    requires index { q ≤ 127 }
-    ensures y { IfOk result (λ blocks. bits_of blocks.y.items
-        ≡ up_to_bytes (codes_at parts.now q coeffs.now Y)) }
-    ensures c1 { IfOk result (λ blocks. bits_of blocks.c1.items
-        ≡ up_to_bytes (codes_at parts.now q coeffs.now C1)) }
-    ensures c2 { IfOk result (λ blocks. bits_of blocks.c2.items
-        ≡ up_to_bytes (codes_at parts.now q coeffs.now C2)) }
-{
-    let bands = SliceBands::new(parts, q);
-    let y = codes_of(alloc, &bands, Component::Y, coeffs)?;
-    let c1 = codes_of(alloc, &bands, Component::C1, coeffs)?;
-    let c2 = codes_of(alloc, &bands, Component::C2, coeffs)?;
-    Ok(Blocks { y, c1, c2 })
+impl Blocks {
+    /// No codes, which take no memory.
+    pub(crate) fn new(alloc: Global) -> Blocks {
+        Blocks {
+            y: Vec::new(alloc),
+            c1: Vec::new(alloc),
+            c2: Vec::new(alloc),
+        }
+    }
 }
 
 // The length of a block of some bytes, in units of the plan's slice size scaler.

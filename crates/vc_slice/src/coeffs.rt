@@ -185,6 +185,14 @@ impl SliceCoeffs {
         })
     }
 
+    /// The memory of coefficients in 32 bits that are done with, and else none.
+    pub fn into_room(self, alloc: Global) -> Vec<i32> {
+        match self.block {
+            CoefficientBlock::Narrow(numbers) => numbers,
+            CoefficientBlock::Wide(_numbers) => Vec::new(alloc),
+        }
+    }
+
     /// The coefficients of a component, in the slice's order.
     pub fn component(&self, c: Component) -> CoefficientList<'_>
         ensures value { listed result ≡ coefficients_of self.now c }

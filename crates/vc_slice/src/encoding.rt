@@ -9,9 +9,10 @@ ghost use Rattle.vc_types.specs.OfPlan.{AreSliceCoefficients, encoded_length};
 ghost use Rattle.vc_types.specs.OfPlan.{encoded_slice, is_too_long, slice_count};
 
 use crate::bands::{SliceBands, SliceParts};
-use crate::blocks::{are_too_long, blocks_of, joined};
+use crate::blocks::{are_too_long, joined};
 use crate::coeffs::SliceCoeffs;
 use crate::counting::block_len;
+use crate::encode_room::EncodeRoom;
 use crate::falls::all_lens;
 use std::alloc::Global;
 use vc_types::{Component, NoMemory, Plan};
@@ -122,16 +123,37 @@ pub fn encode_parts(
     ensures too_long { IfErr result
         (λ e. IsRefusal parts.now.plan parts.now.slice q coeffs.now e) }
 {
+    encode_in(&mut EncodeRoom::new(alloc), parts, coeffs, q)
+}
+
+/// The same by means of memory that serves one slice after another.
+pub fn encode_in(
+    room: &mut EncodeRoom,
+    parts: &SliceParts,
+    coeffs: &SliceCoeffs,
+    q: u8,
+) -> Result<Vec<u8>, EncodeRefusal>
+    requires coefficients { AreCoefficients parts.now coeffs.now }
+    requires index { q ≤ 127 }
+    ensures value { IfOk result
+        (λ bytes. bits_of bytes.items ≡ encoded_slice parts.now.plan parts.now.slice q coeffs.now) }
+    ensures len { IfOk result
+        (λ bytes. length bytes.items ≡ encoded_length parts.now.plan parts.now.slice q coeffs.now) }
+    ensures fits { OnOk result (is_too_long parts.now.plan parts.now.slice q coeffs.now ≡ false) }
+    ensures too_long { IfErr result
+        (λ e. IsRefusal parts.now.plan parts.now.slice q coeffs.now e) }
+{
     let plan = &parts.plan;
-    let Ok(blocks) = blocks_of(alloc, parts, coeffs, q) else {
+    let Ok(()) = room.fill(parts, coeffs, q) else {
         return Err(EncodeRefusal::NoMemory);
     };
-    if are_too_long(plan, &blocks) {
+    let blocks = &room.blocks;
+    if are_too_long(plan, blocks) {
         return Err(EncodeRefusal::TooLong {
             bytes: len_of_parts(parts, coeffs, q),
         });
     }
-    match joined(alloc, plan, q, &blocks) {
+    match joined(room.alloc, plan, q, blocks) {
         Ok(bytes) => Ok(bytes),
         Err(_) => Err(EncodeRefusal::NoMemory),
     }

@@ -9,6 +9,7 @@ mod component;
 mod counting;
 mod decoding;
 mod done;
+mod encode_room;
 mod encoding;
 mod falls;
 mod job;
@@ -36,7 +37,10 @@ pub use coded::{CodedSlice, coded_slice, cut};
 pub use coeffs::{CoefficientList, SliceCoeffs};
 pub use decoding::decode;
 pub use done::SliceDone;
-pub use encoding::{EncodeRefusal, encode, encode_parts, encoded_len, encoded_lens, len_of_parts};
+pub use encode_room::EncodeRoom;
+pub use encoding::{
+    EncodeRefusal, encode, encode_in, encode_parts, encoded_len, encoded_lens, len_of_parts,
+};
 pub use job::SliceJob;
 pub use laws::slices_decode_apart;
 pub use narrow::{TooWide, read_numbers};

@@ -9,16 +9,16 @@ ghost use Rattle.vc_slice.specs.Bands.{block_codes, coefficient_count, quantiser
 
 use crate::bands::SliceBands;
 use crate::narrow::greatest;
-use std::alloc::Global;
 use vc_geometry::bands as band_count;
-use vc_golomb::sint_codes;
+use vc_golomb::sint_codes_in;
 use vc_quant::Quantiser;
 use vc_types::{Component, NoMemory};
 
 /// The codes of the numbers of a component's coefficients, up to the last that isn't 0, and ones up to
-/// whole bytes.
+/// whole bytes: in the memory of bytes that are done with. The numbers take the place of others.
 pub(crate) fn narrow_codes(
-    alloc: Global,
+    numbers: &mut Vec<i32>,
+    used: Vec<u8>,
     bands: &SliceBands,
     c: Component,
     coefficients: &[i32],
@@ -27,13 +27,14 @@ pub(crate) fn narrow_codes(
     ensures { IfOk result (λ bytes. bits_of bytes.items
         ≡ up_to_bytes (block_codes bands.now c coefficients.now)) }
 {
-    let mut numbers = Vec::from_slice(alloc, coefficients)?;
-    codes_in_place(alloc, bands, c, &mut numbers)
+    numbers.clear();
+    numbers.extend_from_slice(coefficients)?;
+    codes_in_place(used, bands, c, numbers)
 }
 
 // The same, where the numbers take the place of the coefficients.
 fn codes_in_place(
-    alloc: Global,
+    used: Vec<u8>,
     bands: &SliceBands,
     c: Component,
     numbers: &mut [i32],
@@ -43,8 +44,8 @@ fn codes_in_place(
         ≡ up_to_bytes (block_codes bands.now c numbers.old)) }
 {
     quantise(bands, c, numbers);
-    let used = used(numbers);
-    sint_codes(alloc, &numbers[..used])
+    let count = used_count(numbers);
+    sint_codes_in(used, &numbers[..count])
 }
 
 // Puts in the place of a component's coefficients the numbers that they are quantised to.
@@ -77,7 +78,7 @@ fn quantise_run(quantiser: &Quantiser, numbers: &mut [i32], from: usize, to: usi
 }
 
 // How many numbers there are up to the last that isn't 0.
-fn used(numbers: &[i32]) -> usize
+fn used_count(numbers: &[i32]) -> usize
     ensures value { take result numbers.now ≡ without_last_zeros numbers.now }
     ensures range { result ≤ length numbers.now }
 {

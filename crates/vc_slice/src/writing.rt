@@ -9,33 +9,39 @@ ghost use Rattle.vc_slice.specs.Bands.{AreCoefficients, component_codes};
 
 use crate::bands::SliceBands;
 use crate::coeffs::{CoefficientList, SliceCoeffs};
+use crate::encode_room::EncodeRoom;
 use crate::narrow_codes::narrow_codes;
-use std::alloc::Global;
 use vc_bits::BitWriter;
 use vc_geometry::bands as band_count;
 use vc_golomb::write_behind_zeros;
 use vc_quant::Quantiser;
 use vc_types::{Component, NoMemory};
 
-/// The codes of a component's numbers, up to the last that isn't 0, and ones up to whole bytes.
-pub(crate) fn codes_of(
-    alloc: Global,
-    bands: &SliceBands,
-    c: Component,
-    coeffs: &SliceCoeffs,
-) -> Result<Vec<u8>, NoMemory>
-    requires { AreCoefficients bands.now.parts.now coeffs.now }
-    ensures { IfOk result (λ bytes. bits_of bytes.items
-        ≡ up_to_bytes (component_codes bands.now coeffs.now c)) }
-{
-    match coeffs.component(c) {
-        CoefficientList::Narrow(numbers) => narrow_codes(alloc, bands, c, numbers),
-        CoefficientList::Wide(_) => {
-            // Most codes have fewer bits than a byte.
-            let mut w = BitWriter::with_room(alloc, coeffs.component(c).len())?;
-            write_codes(&mut w, bands, c, coeffs)?;
-            w.align(true)?;
-            Ok(w.finish())
+impl EncodeRoom {
+    /// The codes of a component's numbers, up to the last that isn't 0, and ones up to whole bytes: in the
+    /// memory of bytes that are done with.
+    pub(crate) fn codes_of(
+        &mut self,
+        used: Vec<u8>,
+        bands: &SliceBands,
+        c: Component,
+        coeffs: &SliceCoeffs,
+    ) -> Result<Vec<u8>, NoMemory>
+        requires { AreCoefficients bands.now.parts.now coeffs.now }
+        ensures { IfOk result (λ bytes. bits_of bytes.items
+            ≡ up_to_bytes (component_codes bands.now coeffs.now c)) }
+    {
+        match coeffs.component(c) {
+            CoefficientList::Narrow(numbers) => {
+                narrow_codes(&mut self.numbers, used, bands, c, numbers)
+            }
+            CoefficientList::Wide(_) => {
+                // Most codes have fewer bits than a byte.
+                let mut w = BitWriter::with_room(self.alloc, coeffs.component(c).len())?;
+                write_codes(&mut w, bands, c, coeffs)?;
+                w.align(true)?;
+                Ok(w.finish())
+            }
         }
     }
 }

@@ -6,7 +6,7 @@ use Rattle.vc_types.proofs.SliceCounts.{some_across, some_down}
 use Rattle.vc_types.proofs.SliceRectangles.{coefficients_before-none}
 use Rattle.vc_geometry.specs.CellRects.{cell_number}
 use Rattle.vc_geometry.proofs.RunWalk.{run_before-none}
-use Rattle.picture_build.proofs.FilledRuns.{run-within, run-from-more, run-stands, run-stays, run-all}
+use Rattle.picture_build.proofs.FilledRuns.{AllSeen, run-within, run-from-more, run-stands, run-stays, run-all}
 use Rattle.picture_build.proofs.RowsWithin.{few_cells, rows_within}
 use Rattle.picture_build.proofs.filling.place_run.Goals as goal
 
@@ -14,9 +14,9 @@ pub loop-b-init : goal.loop-b-init
 loop-b-init c =
     let run = c.args.run.now in
     record {
-      from = sym (run_before-none (parameters_of run.plan) c.args.c run.first run.count);
-      on = λ k i hk hi. absurd (omega (arith, coefficients_before-none (parameters_of run.plan) c.args.c (run.first + k), hi));
-      off = λ k none. refl;
+      from = sym (run_before-none (parameters_of run.plan) c.args.run.now.component run.first run.count);
+      on = λ k i hk hi seen. absurd (omega (arith, coefficients_before-none (parameters_of run.plan) c.args.run.now.component (run.first + k), hi));
+      off = λ k seen none. refl;
       length = refl;
     }
 
@@ -29,7 +29,7 @@ place_rect-requires-clause-cells c =
 pub place_rect-requires-clause-from : goal.place_rect-requires-clause-from
 place_rect-requires-clause-from c =
     let run = c.args.run.now in
-    let within = run-within (parameters_of run.plan) c.args.c run.first run.count run.run (some_across run.plan.slices_x run.plan.slices_y run.plan.slices) (some_down run.plan.slices_x run.plan.slices_y run.plan.slices) c.args.strip.now c.loop-b.b c.loop-b.from c.rect-rect.result (omega arith) c.rect-rect.ensures.value c.loop-b.invariant.from in
+    let within = run-within (parameters_of run.plan) c.args.run.now.component run.first run.count AllSeen run.run (some_across run.plan.slices_x run.plan.slices_y run.plan.slices) (some_down run.plan.slices_x run.plan.slices_y run.plan.slices) c.args.strip.now c.loop-b.b c.loop-b.from c.rect-rect.result (omega arith) c.rect-rect.ensures.value c.loop-b.invariant.from in
     omega (arith, within, c.requires.strip)
 
 pub overflow_mul-from : goal.overflow_mul-from
@@ -41,7 +41,7 @@ overflow_mul-from c =
 pub overflow_add-from : goal.overflow_add-from
 overflow_add-from c =
     let run = c.args.run.now in
-    let within = run-within (parameters_of run.plan) c.args.c run.first run.count run.run (some_across run.plan.slices_x run.plan.slices_y run.plan.slices) (some_down run.plan.slices_x run.plan.slices_y run.plan.slices) c.args.strip.now c.loop-b.b c.loop-b.from c.rect-rect.result (omega arith) c.rect-rect.ensures.value c.loop-b.invariant.from in
+    let within = run-within (parameters_of run.plan) c.args.run.now.component run.first run.count AllSeen run.run (some_across run.plan.slices_x run.plan.slices_y run.plan.slices) (some_down run.plan.slices_x run.plan.slices_y run.plan.slices) c.args.strip.now c.loop-b.b c.loop-b.from c.rect-rect.result (omega arith) c.rect-rect.ensures.value c.loop-b.invariant.from in
     omega (arith, within, c.requires.strip)
 
 pub loop-b-preserved : goal.loop-b-preserved
@@ -52,14 +52,14 @@ loop-b-preserved c =
     let strip = c.args.strip.now in
     let new = c.place_rect.new.cells in
     let same = c.padded-width.ensures.width in
-    let on : (j : ℕ) → j < area r → line_of new (cell_number (padded_width p c.args.c) (place_in r j)) ≡ line_of strip (c.loop-b.from + j) =
+    let on : (j : ℕ) → j < area r → line_of new (cell_number (padded_width p c.args.run.now.component) (place_in r j)) ≡ line_of strip (c.loop-b.from + j) =
     subst (λ stride. (j : ℕ) → j < area r → line_of new (cell_number stride (place_in r j)) ≡ line_of strip (c.loop-b.from + j)) same c.place_rect.ensures.on in
-    let off : (k : ℕ) → ((j : ℕ) → j < area r → k ≢ cell_number (padded_width p c.args.c) (place_in r j)) → line_of new k ≡ line_of c.loop-b.cells k =
+    let off : (k : ℕ) → ((j : ℕ) → j < area r → k ≢ cell_number (padded_width p c.args.run.now.component) (place_in r j)) → line_of new k ≡ line_of c.loop-b.cells k =
     subst (λ stride. (k : ℕ) → ((j : ℕ) → j < area r → k ≢ cell_number stride (place_in r j)) → line_of new k ≡ line_of c.loop-b.cells k) same c.place_rect.ensures.off in
     record {
-      from = run-from-more (parameters_of run.plan) c.args.c run.first run.count run.run (some_across run.plan.slices_x run.plan.slices_y run.plan.slices) (some_down run.plan.slices_x run.plan.slices_y run.plan.slices) c.args.strip.now c.loop-b.b c.loop-b.from c.rect-rect.result (omega arith) c.rect-rect.ensures.value c.loop-b.invariant.from;
-      on = run-stands (parameters_of run.plan) c.args.c run.first run.count run.run (some_across run.plan.slices_x run.plan.slices_y run.plan.slices) (some_down run.plan.slices_x run.plan.slices_y run.plan.slices) c.args.strip.now c.loop-b.b c.loop-b.from c.rect-rect.result (omega arith) c.rect-rect.ensures.value c.loop-b.invariant.from c.loop-b.cells new on off c.loop-b.invariant.on;
-      off = run-stays (parameters_of run.plan) c.args.c run.first run.count run.run (some_across run.plan.slices_x run.plan.slices_y run.plan.slices) (some_down run.plan.slices_x run.plan.slices_y run.plan.slices) c.args.strip.now c.loop-b.b c.loop-b.from c.rect-rect.result (omega arith) c.rect-rect.ensures.value c.loop-b.invariant.from c.loop-b.cells new on off c.args.cells.now c.loop-b.invariant.off;
+      from = run-from-more (parameters_of run.plan) c.args.run.now.component run.first run.count AllSeen run.run (some_across run.plan.slices_x run.plan.slices_y run.plan.slices) (some_down run.plan.slices_x run.plan.slices_y run.plan.slices) c.args.strip.now c.loop-b.b c.loop-b.from c.rect-rect.result (omega arith) c.rect-rect.ensures.value c.loop-b.invariant.from;
+      on = run-stands (parameters_of run.plan) c.args.run.now.component run.first run.count AllSeen run.run (some_across run.plan.slices_x run.plan.slices_y run.plan.slices) (some_down run.plan.slices_x run.plan.slices_y run.plan.slices) c.args.strip.now c.loop-b.b c.loop-b.from c.rect-rect.result (omega arith) c.rect-rect.ensures.value c.loop-b.invariant.from (line_of c.loop-b.cells) (line_of new) (λ j h seen. on j h) (λ m seen none. off m none) c.loop-b.invariant.on;
+      off = run-stays (parameters_of run.plan) c.args.run.now.component run.first run.count AllSeen run.run (some_across run.plan.slices_x run.plan.slices_y run.plan.slices) (some_down run.plan.slices_x run.plan.slices_y run.plan.slices) c.args.strip.now c.loop-b.b c.loop-b.from c.rect-rect.result (omega arith) c.rect-rect.ensures.value c.loop-b.invariant.from (line_of c.loop-b.cells) (line_of new) (λ j h seen. on j h) (λ m seen none. off m none) (line_of c.args.cells.now) c.loop-b.invariant.off;
       length = c.place_rect.ensures.length ∙ c.loop-b.invariant.length;
     }
 
@@ -67,6 +67,6 @@ pub returns : goal.returns
 returns c =
     let run = c.args.run.now in
     record {
-      only = record { length = c.loop-b.invariant.length; others = c.loop-b.invariant.off };
-      own = run-all (parameters_of run.plan) c.args.c run.first run.count c.args.strip.now c.loop-b.b c.loop-b.cells (omega arith) c.loop-b.invariant.on;
+      only = record { length = c.loop-b.invariant.length; others = λ m none. c.loop-b.invariant.off m tt none };
+      own = λ k i hk hi. run-all (parameters_of run.plan) c.args.run.now.component run.first run.count AllSeen c.args.strip.now c.loop-b.b (line_of c.loop-b.cells) (omega arith) c.loop-b.invariant.on k i hk hi tt;
     }

@@ -22,11 +22,11 @@ new-run-requires-clause-some c =
 pub place_run-requires-clause-strip : goal.place_run-requires-clause-strip
 place_run-requires-clause-strip c =
     let own = subst (IsWaitingRun (parameters_of c.args.plan.now)) (sym c.waiting-item.is) (c.requires.runs c.loop-waiting.waiting-index c.waiting-item.result c.loop-waiting-test.true) in
-    rw (c.new-run.ensures.plan, c.new-run.ensures.first, c.new-run.ensures.count, c.component.ensures.value) (own.whole c.args.c)
+    rw (c.new-run.ensures.plan, c.new-run.ensures.component, c.new-run.ensures.first, c.new-run.ensures.count, c.component.ensures.value) (own.whole c.args.c)
 
 pub place_run-requires-clause-cells : goal.place_run-requires-clause-cells
 place_run-requires-clause-cells c =
-    rw c.new-run.ensures.plan
+    rw (c.new-run.ensures.plan, c.new-run.ensures.component)
     (fills-length (parameters_of c.args.plan.now) c.args.c (take c.loop-waiting.waiting-index c.args.runs.now) c.args.cells.now c.loop-waiting.cells c.loop-waiting.invariant ∙ c.requires.cells)
 
 pub loop-waiting-preserved : goal.loop-waiting-preserved
@@ -38,7 +38,7 @@ loop-waiting-preserved c =
     subst (λ (done : List WaitingRun). FillsRuns p c.args.c done c.args.cells.now c.place_run.new.cells)
     (ap (λ (r : WaitingRun). take i runs ++ r ∷ []) c.waiting-item.is ∙ sym (take_more runs i run c.loop-waiting-test.true))
     (fills-more p c.args.c (take i runs) run c.args.cells.now c.loop-waiting.cells c.place_run.new.cells c.loop-waiting.invariant
-    (rw (c.new-run.ensures.plan, c.new-run.ensures.first, c.new-run.ensures.count, c.component.ensures.value) at c.place_run.ensures))
+    (rw (c.new-run.ensures.plan, c.new-run.ensures.component, c.new-run.ensures.first, c.new-run.ensures.count, c.component.ensures.value) at c.place_run.ensures))
 
 pub returns : goal.returns
 returns c =

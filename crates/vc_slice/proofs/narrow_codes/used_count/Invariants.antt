@@ -1,6 +1,6 @@
 use Rattle.std.proofs.Common.{◌≡◌, ◌<◌, ◌≤◌, ℕ, pos, length}
 use Rattle.vc_types.specs.Lifting.{line_of}
-use Rattle.vc_slice.proofs.narrow_codes.used.Given as goal
+use Rattle.vc_slice.proofs.narrow_codes.used_count.Given as goal
 
 abbrev pub invariant-zeros : goal.invariant-zeros
 invariant-zeros l = record {

@@ -1,6 +1,6 @@
 use Rattle.std.proofs.Common.{arith}
 use Rattle.vc_slice.proofs.WrittenBlocks.{kept_front, some_bits}
-use Rattle.vc_slice.proofs.narrow_codes.used.Goals as goal
+use Rattle.vc_slice.proofs.narrow_codes.used_count.Goals as goal
 
 pub returns-else-numbers-count-eq0-clause-value : goal.returns-else-numbers-count-eq0-clause-value
 returns-else-numbers-count-eq0-clause-value c = grind (arith, kept_front, some_bits)

@@ -1,11 +1,24 @@
 use Rattle.std.proofs.Common.{◌≡◌, ◌+◌, append-nil, arith, rules, get_or, pos, to_z, of_z}
 use Rattle.std.specs.Int.{w32}
 use Rattle.vc_types.proofs.Bits.{bits_of-nil}
-use Rattle.vc_golomb.proofs.AppendedCodes.{pair_added, code_more}
-use Rattle.vc_golomb.proofs.codes.sint_codes.Goals as goal
+use Rattle.vc_golomb.proofs.AppendedCodes.{quad_added, pair_added, code_more}
+use Rattle.vc_golomb.proofs.codes.sint_codes_in.Goals as goal
 
 pub numbers-init : goal.numbers-init
 numbers-init c = grind (arith, append-nil, bits_of-nil)
+
+pub add_quad-requires-clause-room : goal.add_quad-requires-clause-room
+add_quad-requires-clause-room c = let second = c.begins_quad.ensures.second c.if-begins_quad.true in omega (arith, second.inside)
+
+pub numbers-preserved-then-begins_quad : goal.numbers-preserved-then-begins_quad
+numbers-preserved-then-begins_quad c =
+    let second = c.begins_quad.ensures.second c.if-begins_quad.true in
+    record {
+      within = omega (arith, second.inside);
+      bits = quad_added c.args.numbers.now c.numbers.at _ _ (omega (arith, second.inside)) c.numbers.invariant.bits c.add_quad.ensures.bits;
+      len = omega arith;
+      capacity = omega arith;
+    }
 
 pub add_pair-requires-clause-room : goal.add_pair-requires-clause-room
 add_pair-requires-clause-room c = let pair = c.begins_pair.ensures c.if-begins_pair.true in omega (arith, pair.inside)
