@@ -18,9 +18,11 @@ use vc_slice::{SliceCoeffs, SliceParts};
 use vc_types::{Component, Grid, NoMemory, Rect};
 use vc_wave::nesting_of;
 
-/// The coefficients of a slice, gathered out of a picture's grids.
+/// The coefficients of a slice, gathered out of a picture's grids: in the memory of numbers that are done
+/// with, where 32 bits hold them.
 pub(crate) fn gather(
     alloc: Global,
+    used: Vec<i32>,
     parts: &SliceParts,
     grids: &PictureGrids,
 ) -> Result<SliceCoeffs, NoMemory>
@@ -28,13 +30,14 @@ pub(crate) fn gather(
     ensures value { IfOk result (λ coeffs. coeffs ≡ slice_in_grids parts.now grids.now) }
     ensures whole { IfOk result (λ coeffs. AreCoefficients parts.now coeffs) }
 {
-    let coeffs = gathered(alloc, parts, grids)?;
+    let coeffs = gathered(alloc, used, parts, grids)?;
     Ok(coeffs)
 }
 
 #[tactic(auto, unfolding(crate::specs::Grids::cells_of))]
 fn gathered(
     alloc: Global,
+    used: Vec<i32>,
     parts: &SliceParts,
     grids: &PictureGrids,
 ) -> Result<SliceCoeffs, NoMemory>
@@ -43,7 +46,7 @@ fn gathered(
 {
     match (&grids.y, &grids.c1, &grids.c2) {
         (ComponentGrid::Narrow(y), ComponentGrid::Narrow(c1), ComponentGrid::Narrow(c2)) => {
-            gather_narrow(alloc, parts, y, c1, c2)
+            gather_narrow(used, parts, y, c1, c2)
         }
         _ => gather_any(alloc, parts, grids),
     }
@@ -51,7 +54,7 @@ fn gathered(
 
 // The same where all components are in 32 bits.
 fn gather_narrow(
-    alloc: Global,
+    used: Vec<i32>,
     parts: &SliceParts,
     y: &[i32],
     c1: &[i32],
@@ -68,7 +71,8 @@ fn gather_narrow(
 {
     let of_y = parts.count(Component::Y) as usize;
     let of_c = parts.count(Component::C1) as usize;
-    let mut numbers = vec![in alloc; 0i32; of_y + of_c + of_c]?;
+    let mut numbers = used;
+    numbers.resize(of_y + of_c + of_c, 0)?;
     copy_components(parts, y, c1, c2, &mut numbers);
     Ok(SliceCoeffs::narrow(numbers, of_y, of_c, of_c))
 }

@@ -16,7 +16,7 @@ use crate::chooser::Chooser;
 use crate::grids::PictureGrids;
 use crate::refusal::SliceRefusal;
 use crate::run::EncodedRun;
-use crate::slices::{SentSlice, encode_slice};
+use crate::slices::{SentSlice, SliceRoom, encode_slice};
 use std::alloc::Global;
 use std::thread::{Threads, map_indices};
 use vc_slice::SliceParts;
@@ -79,6 +79,7 @@ fn encode_slices<F: Fn(&SliceNeed) -> u8>(
     let from = part.from;
     let to = part.to;
     let mut slices = EncodedRun::with_room(alloc, (to - from) as usize)?;
+    let mut room = SliceRoom::new(alloc);
     let mut near = 127;
     for slice in from..to {
         if slice == from || slice % plan.slices_x == 0 {
@@ -86,7 +87,7 @@ fn encode_slices<F: Fn(&SliceNeed) -> u8>(
         }
         let parts = SliceParts::new(plan, slice);
         let sent = SentSlice { s, parts };
-        let encoded = encode_slice(alloc, &sent, chooser, grids, near)?;
+        let encoded = encode_slice(&mut room, &sent, chooser, grids, near)?;
         near = encoded.index;
         slices.push(&encoded)?;
     }

@@ -22,7 +22,8 @@ use crate::gathering::gather;
 use crate::grids::PictureGrids;
 use crate::refusal::SliceRefusal;
 use std::alloc::Global;
-use vc_slice::{EncodeRefusal, SliceCoeffs, SliceParts, encode_parts, encoded_lens};
+use std::mem::replace;
+use vc_slice::{EncodeRefusal, EncodeRoom, SliceCoeffs, SliceParts, encode_in, encoded_lens};
 use vc_types::{IndexChoice, NoMemory, SendSettings, SliceNeed};
 
 // The heads of the packet and of the payload in front of slices have so many bytes.
@@ -48,9 +49,28 @@ pub(crate) struct SentSlice<'a> {
     pub(crate) ghost sent: { parameters_of parts.plan ≡ sent_parameters (sending_view s.now) },
 }
 
+/// Memory to encode slices by means of, one after another.
+#[derive(Drop)]
+pub(crate) struct SliceRoom {
+    alloc: Global,
+    numbers: Vec<i32>,
+    codes: EncodeRoom,
+}
+
+impl SliceRoom {
+    /// No memory yet.
+    pub(crate) fn new(alloc: Global) -> SliceRoom {
+        SliceRoom {
+            alloc,
+            numbers: Vec::new(alloc),
+            codes: EncodeRoom::new(alloc),
+        }
+    }
+}
+
 /// Encodes a slice at the index that the chooser answers, which may be near another.
 pub(crate) fn encode_slice<F: Fn(&SliceNeed) -> u8>(
-    alloc: Global,
+    room: &mut SliceRoom,
     sent: &SentSlice<'_>,
     chooser: &Chooser<F>,
     grids: &PictureGrids,
@@ -69,9 +89,12 @@ pub(crate) fn encode_slice<F: Fn(&SliceNeed) -> u8>(
         → IsRefusedSlice (Answers F.Fn (sending_view sent.now.s.now) chooser.now)
         chooser.now.wants_lens (sending_view sent.now.s.now) planes sent.now.parts.slice e) }
 {
-    let coeffs = gather(alloc, &sent.parts, grids)?;
+    let alloc = room.alloc;
+    let used = replace(&mut room.numbers, Vec::new(alloc));
+    let coeffs = gather(alloc, used, &sent.parts, grids)?;
     let index = choose(alloc, sent, chooser, &coeffs, near)?;
-    let bytes = encode_at(alloc, sent, &coeffs, index)?;
+    let bytes = encode_at(&mut room.codes, sent, &coeffs, index)?;
+    room.numbers = coeffs.into_room(alloc);
     Ok(EncodedSlice { index, bytes })
 }
 
@@ -166,7 +189,7 @@ fn told_lens(
 // A slice's bytes at an index. It is refused where it is too large for its lengths or for a
 // datagram.
 fn encode_at(
-    alloc: Global,
+    room: &mut EncodeRoom,
     sent: &SentSlice<'_>,
     coeffs: &SliceCoeffs,
     index: u8,
@@ -179,7 +202,7 @@ fn encode_at(
         → RefusesAt (sending_view sent.now.s.now) planes sent.now.parts.slice index e) }
 {
     let slice = sent.parts.slice;
-    match encode_parts(alloc, &sent.parts, coeffs, index) {
+    match encode_in(room, &sent.parts, coeffs, index) {
         Ok(bytes) if bytes.len() <= (sent.s.size - HEADS) as usize => {
             bits_are_packed(&bytes);
             Ok(bytes)

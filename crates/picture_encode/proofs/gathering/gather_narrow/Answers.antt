@@ -14,7 +14,7 @@ returns c =
     let of_y = c.count-of_y.ensures in
     let of_c = c.count-of_c.ensures in
     let numbers = c.copy_components.new.numbers in
-    let same = written_over c.in_ok-numbers.numbers.len numbers (drop (length numbers) c.in_ok-numbers.numbers.items) (omega arith) in
+    let same = written_over c.resize.new.self.len numbers (drop (length numbers) c.resize.new.self.items) (omega arith) in
     c.narrow.ensures
     ∙ three_are c.count-of_y.result c.count-of_c.result (narrow_numbers p Y c.args.y.now slice) (narrow_numbers p C1 c.args.c1.now slice) (narrow_numbers p C2 c.args.c2.now slice)
     (length-narrow p Y c.args.y.now slice ∙ sym of_y)
