@@ -10,6 +10,7 @@ mod count;
 mod frame;
 mod generating;
 mod laws;
+mod round_trip;
 mod samples;
 mod settings;
 mod shape;

@@ -1,5 +1,5 @@
 -- One datagram from a wire, or why there is none.
-use Rattle.std.proofs.Common.{◌≡◌, ◌≤◌, ℕ, List, [], ◌∷◌, Some, None, refl, sym, ap, ◌∙◌, subst, arith}
+use Rattle.std.proofs.Common.{◌≡◌, ◌≤◌, ℕ, List, [], ◌∷◌, Some, None, refl, sym, subst, arith}
 use Rattle.link_outside.specs.Calls.{passes_none}
 use Rattle.link_outside.specs.Passing.{Passes}
 use Rattle.link_report.specs.declared.ending.Ending.TheVariants.{NoMemory, WireFailed}

@@ -1,5 +1,5 @@
 -- How a datagram is exchanged: it is sent, and then one is received and heard, or not.
-use Rattle.std.proofs.Common.{◌≡◌, ℕ, ◌≤◌, Bool, true, false, List, [], ◌∷◌, ◌++◌, length, Some, None, refl, sym, ap, ◌∙◌, subst, arith, inl, inr}
+use Rattle.std.proofs.Common.{◌≡◌, ℕ, ◌≤◌, Bool, true, false, List, [], ◌∷◌, length, Some, None, refl, sym, subst, arith, inl, inr}
 use Rattle.std.specs.Prelude.{Option, if◌then◌else◌}
 use Rattle.link_outside.specs.Calls.{passes_none, passes_sent, passes_then}
 use Rattle.link_outside.specs.Passing.{Passes}

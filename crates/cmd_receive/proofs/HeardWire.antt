@@ -1,7 +1,7 @@
 -- What hearing a wire's datagrams came to, by what its inlet and a playout that waits for sessions did.
-use Rattle.std.proofs.Common.{◌≡◌, true, ◌≤◌, ◌<◌, ◌+◌, ℕ, List, [], ◌∷◌, ◌++◌, length, Option, Some}
-use Rattle.std.proofs.Common.{None, Ok, Err, refl, arith, inl, inr, append-nil, length-append}
-use Rattle.std.specs.Prelude.{Result, ◌⊎◌}
+use Rattle.std.proofs.Common.{◌≡◌, true, ◌≤◌, ◌<◌, ℕ, List, [], ◌++◌, length, Some}
+use Rattle.std.proofs.Common.{Ok, Err, refl, arith, inl, inr, append-nil, length-append}
+use Rattle.std.specs.Prelude.{Result}
 use Rattle.link_report.specs.declared.ending.Ending.{Ending}
 use Rattle.link_report.specs.declared.ending.Ending.TheVariants.{NoMemory, OutputFailed}
 use Rattle.link_report.specs.declared.ending.Ending.TheVariants.{PacketLimit, WireFailed}

@@ -1,12 +1,11 @@
 -- What a receiver's calls do to what it has heard, and what it has heard since it heard nothing.
-use Rattle.std.proofs.Common.{◌≡◌, ℕ, List, [], ◌∷◌, ◌++◌, Option, Err, refl, append-nil}
+use Rattle.std.proofs.Common.{◌≡◌, ℕ, List, [], ◌∷◌, ◌++◌, Err, refl, append-nil}
 use Rattle.std.specs.Prelude.{Result}
 use Rattle.link_model.specs.Judgement.{tally_of}
 use Rattle.link_model.specs.declared.tally.Tally.{Tally}
 use Rattle.link_receiver.proofs.Due.{due_with, due_at_end, nothing_due}
 use Rattle.link_receiver.specs.HeardLists.{OutputForm, HasHeard, OfferedToPlaces}
-use Rattle.link_receiver.specs.HeardLists.{due_so_far, due_in_all, newly_due, still_due}
-use Rattle.link_receiver.specs.States.{ReceiverState}
+use Rattle.link_receiver.specs.HeardLists.{due_in_all, newly_due, still_due}
 use Rattle.link_receiver.specs.declared.fault.EnterFault.{EnterFault}
 use Rattle.link_receiver.specs.declared.fault.EnterFault.TheVariants as faults
 use Rattle.link_report.specs.declared.ending.Ending.{Ending}
@@ -14,11 +13,10 @@ use Rattle.receiver_model.specs.Entering.{datagram_jobs}
 use Rattle.vc_ports.proofs.Growing.{Grew-none, Grew-then, GrewBySome-then}
 use Rattle.vc_ports.specs.Faults.{HasCause}
 use Rattle.vc_ports.specs.Writing.{Grew, GrewBySome}
-use Rattle.vc_slice.specs.Asked.{Told}
 use Rattle.cmd_receive.proofs.Asking.{nothing_offered, offered_then, offered_with}
 use Rattle.link_hearing.specs.Hearing.{fault_ending}
 use Rattle.cmd_receive.specs.HearingLaws.{breaks_then, part_of_all}
-use Rattle.cmd_receive.specs.Playouts.{PlayoutState, BreaksOff, Drains, GoesOn, HasEndedSince}
+use Rattle.cmd_receive.specs.Playouts.{PlayoutState, BreaksOff, Drains, GoesOn}
 use Rattle.cmd_receive.specs.Playouts.{HasHeardSince, Hears, Stumbles, fault_of}
 
 -- ---- its calls

@@ -4,13 +4,12 @@ use Rattle.std.specs.Prelude.{Result, ◌⊎◌}
 use Rattle.std.proofs.lemmas.Bool.{false≢true}
 use Rattle.cmd_send.proofs.Carrying.{sends_at, sends_weaker}
 use Rattle.cmd_send.specs.Sends.{SendsFrames}
-use Rattle.link_model.specs.Output.{full_output}
 use Rattle.link_model.specs.declared.tally.Tally.{Tally}
 use Rattle.link_outside.specs.Passing.{Passes}
 use Rattle.link_outside.specs.declared.outlet.OutletFault.{OutletFault}
 use Rattle.link_outside.specs.declared.outlet.OutletFault.TheVariants as outlets
 use Rattle.link_receiver.proofs.Hired.{started}
-use Rattle.link_receiver.specs.HeardLists.{AsFrames, HasHeard}
+use Rattle.link_receiver.specs.HeardLists.{AsFrames}
 use Rattle.link_receiver.specs.StartedWorkers.{HasStarted}
 use Rattle.link_report.specs.declared.ending.Ending.{Ending}
 use Rattle.link_report.specs.declared.ending.Ending.TheVariants as endings
@@ -28,8 +27,8 @@ use Rattle.cmd_receive.proofs.Outcomes.{Outcome, outcome_of}
 use Rattle.cmd_receive.specs.Decoding.{HasGivenWork}
 use Rattle.link_hearing.specs.Hearing.{has_broken}
 use Rattle.cmd_receive.specs.HearingLaws.{so_far}
-use Rattle.cmd_receive.specs.Exchanges.{BrokeBehind, Exchanged, HearsInTurn, LoopBroke, LoopState, WereLooped}
-use Rattle.cmd_receive.specs.Playouts.{PlayoutState, BreaksOff, Drains, HasEndedSince, Hears, Stumbles}
+use Rattle.cmd_receive.specs.Exchanges.{BrokeBehind, HearsInTurn, LoopBroke, LoopState, WereLooped}
+use Rattle.cmd_receive.specs.Playouts.{PlayoutState, BreaksOff, Drains, HasEndedSince, Hears}
 use Rattle.cmd_receive.specs.Looping.{GivesWork, HasBegun, LoopWrote, LoopsBack, LoopsBetween, SentInTurn, SentSome}
 
 -- ---- what was heard is fixed

@@ -1,5 +1,5 @@
 -- What a loop does with each datagram: it is sent, and then one is received and heard.
-use Rattle.std.specs.Prelude.{◌≡◌, ◌⊎◌, ◌≤◌, ℕ, IsTrue, List, [], length, take, Option, Some}
+use Rattle.std.specs.Prelude.{◌≡◌, ◌⊎◌, ◌≤◌, ℕ, IsTrue, List, length, take, Option}
 use Rattle.link_outside.specs.Passing.{Passes}
 use Rattle.link_outside.specs.declared.outlet.OutletFault.{OutletFault}
 use Rattle.link_outside.specs.declared.outlet.OutletFault.TheVariants as outlets

@@ -1,7 +1,7 @@
 -- Datagrams that a receiver hears one after another. The laws of a listener and of a
 -- loop's outlet cite these.
-use Rattle.std.proofs.Common.{◌≡◌, ℕ, ◌≤◌, List, [], ◌∷◌, ◌++◌, length, Option, sym}
-use Rattle.std.proofs.Common.{subst, arith, append-nil, append_assoc}
+use Rattle.std.proofs.Common.{ℕ, ◌≤◌, List, [], ◌∷◌, ◌++◌, length, Option}
+use Rattle.std.proofs.Common.{arith, append-nil, append_assoc}
 use Rattle.link_receiver.proofs.Asked.{asked_none, asked_twice}
 use Rattle.link_receiver.proofs.Due.{due_with, due_at_end}
 use Rattle.link_receiver.specs.HeardLists.{OutputForm, due_so_far, due_in_all, newly_due, still_due}
@@ -9,7 +9,6 @@ use Rattle.link_report.specs.declared.ending.Ending.{Ending}
 use Rattle.link_report.specs.declared.ending.Ending.TheVariants.{NoMemory, OutputFailed}
 use Rattle.vc_ports.proofs.Growing.{GrewBySome-all, GrewBySome-front}
 use Rattle.vc_ports.specs.Writing.{GrewBySome}
-use Rattle.vc_slice.specs.Asked.{Told}
 use Rattle.cmd_receive.specs.Playouts.{PlayoutState, BreaksOff, GoesOn, Hears, Stumbles}
 
 pub stays : (x : PlayoutState) → GoesOn x x

@@ -1,5 +1,5 @@
 -- A receiver with its output and its places, and what it does with the datagrams that it is given.
-use Rattle.std.specs.Prelude.{◌≡◌, ◌≤◌, ℕ, List, [], ◌∷◌, ◌++◌, Option, Result, Ok, Err, ⊤}
+use Rattle.std.specs.Prelude.{◌≡◌, ◌≤◌, ℕ, List, [], ◌∷◌, ◌++◌, Option, Result, Ok, Err}
 use Rattle.link_model.specs.Judgement.{outcome_behind, tally_of}
 use Rattle.link_model.specs.Session.{sessions_of}
 use Rattle.link_model.specs.declared.outcome.Outcome.{Outcome}

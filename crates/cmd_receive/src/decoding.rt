@@ -7,6 +7,7 @@ ghost use Rattle.cmd_receive.specs.Playouts.{IsNew, IsWell, PlaysInput, playout_
 use crate::concluding::{conclude, with_record_counts};
 use crate::playout::Playout;
 use crate::settings::DecodeSettings;
+use cmd_send::Host;
 use link_hearing::{HeardInput, hear_input};
 use link_receiver::{Receiver, threads_beside};
 use link_report::{Answer, Ending};
@@ -23,8 +24,7 @@ use vc_slice::{Hands, Places};
 /// record, or has a byte more than these entries, or if a pcap file has no head or a record that is too long,
 /// the frames of the datagrams received so far are still written.
 pub fn decode<H: Threads + Copy, S: Source, O: Sink, P: Hands>(
-    rt: H,
-    alloc: Global,
+    host: Host<H>,
     settings: &DecodeSettings,
     input: &mut S,
     output: &mut O,
@@ -39,17 +39,16 @@ pub fn decode<H: Threads + Copy, S: Source, O: Sink, P: Hands>(
         (output_of O.held O.faults output.old output.new)
         (changed P.Places.told hands.old hands.new) }
 {
-    let threads = threads_beside(rt, settings.workers);
-    let receiver = Receiver::new(alloc, threads, settings.window);
-    take_input(alloc, settings, receiver, input, output, hands)
+    let threads = threads_beside(host.rt, settings.workers);
+    let receiver = Receiver::new(host.alloc, threads, settings.window);
+    take_input(host.alloc, settings, receiver, input, output, hands)
 }
 
 /// Unpacks a capture, or a pcap file: reads it as `decode` does, and writes the elementary stream of its
 /// first session. That is the session's sequence header, the pictures of the frames that `decode` would
 /// write of it, each in its own bytes, and an end of sequence; without pictures it is nothing.
 pub fn unpack<H: Threads + Copy, S: Source, O: Sink, P: Hands>(
-    rt: H,
-    alloc: Global,
+    host: Host<H>,
     settings: &DecodeSettings,
     input: &mut S,
     output: &mut O,
@@ -64,9 +63,9 @@ pub fn unpack<H: Threads + Copy, S: Source, O: Sink, P: Hands>(
         (output_of O.held O.faults output.old output.new)
         (changed P.Places.told hands.old hands.new) }
 {
-    let threads = threads_beside(rt, settings.workers);
-    let receiver = Receiver::units(alloc, threads, settings.window);
-    take_input(alloc, settings, receiver, input, output, hands)
+    let threads = threads_beside(host.rt, settings.workers);
+    let receiver = Receiver::units(host.alloc, threads, settings.window);
+    take_input(host.alloc, settings, receiver, input, output, hands)
 }
 
 // Starts the workers, and has a new receiver take the datagrams of an input.

@@ -5,77 +5,70 @@ ghost use Rattle.cmd_receive.specs.Looping.{LoopsBack, LoopsBetween};
 ghost use Rattle.vc_ports.specs.Changes.{changed, input_of, output_of, wire_of};
 ghost use Rattle.vc_types.specs.SenderSettings.{sending_view};
 
+use crate::options::LoopOptions;
 use crate::outlet::LoopOutlet;
 use crate::playout::Playout;
 use crate::wire_inlet::WireInlet;
-use cmd_send::{Totals, send_frames};
+use cmd_send::{FrameOptions, Host, Totals, send_frames};
 use link_hearing::has_broken;
 use link_model::Tally;
 use link_outside::Inbox;
 use link_receiver::{Receiver, threads_beside};
 use link_report::{Ending, Summary};
-use std::alloc::Global;
 use std::thread::Threads;
 use vc_ports::{NoPace, Reached, Sink, Source, Wire};
 use vc_slice::{Hands, Places};
-use vc_types::SendSettings;
 
-/// Sends at most `frames` raw frames over a wire, and receives them back: listens at an address and aims
-/// there, then reads frames one after another, sends each datagram that carries one, and at the end that of
-/// the end of the sequence (RFC 8450), and receives once after each. Up to `window` pictures are open (2 to
-/// 8), and the raw frames of the datagrams that come are written. Each slice that a picture keeps is offered
-/// to `workers` workers, and the same number of threads, at most 64, encodes each frame. With workers, each
-/// received picture is also transformed in four parts side by side. If sending stops early, the frames of the
-/// datagrams received so far are still written, unless the output failed or memory ran out. If listening or
-/// aiming fails, no input is read. Raw frames are this project's own.
+/// Sends at most `options.sent.frames` raw frames over a wire, and receives them back: listens at an address
+/// and aims there, then reads frames one after another, sends each datagram that carries one, and at the end
+/// that of the end of the sequence (RFC 8450), and receives once after each. Up to `options.window` pictures
+/// are open (2 to 8), and the raw frames of the datagrams that come are written. Each slice that a picture
+/// keeps is offered to `options.sent.workers` workers, and the same number of threads, at most 64, encodes
+/// each frame. With workers, each received picture is also transformed in four parts side by side. If sending
+/// stops early, the frames of the datagrams received so far are still written, unless the output failed or
+/// memory ran out. If listening or aiming fails, no input is read. Raw frames are this project's own.
 pub fn loop_back<H: Threads + Copy + Send + Sync, S: Source, O: Sink, N: Wire, P: Hands>(
-    rt: H,
-    alloc: Global,
-    s: &SendSettings,
-    frames: u32,
-    window: u8,
-    workers: u32,
-    at: &str,
+    host: Host<H>,
+    options: &LoopOptions,
     input: &mut S,
     output: &mut O,
     wire: &mut N,
     hands: &mut P,
 ) -> Result<Summary, Ending>
-    requires least { 2 ≤ window }
-    requires most { window ≤ 8 }
+    requires least { 2 ≤ options.now.window }
+    requires most { options.now.window ≤ 8 }
     requires free { P.is_free hands.old }
-    ensures { LoopsBack (sending_view s.now) frames window workers at.now result
+    ensures { LoopsBack (sending_view options.now.sent.sender) options.now.sent.frames options.now.window
+        options.now.sent.workers options.now.at.now result
         (input_of S.left S.faults input.old input.new)
         (output_of O.held O.faults output.old output.new)
         (wire_of N.told N.faults wire.old wire.new)
         (changed P.Places.told hands.old hands.new) }
 {
-    let Ok(()) = hands.start_workers(workers) else {
+    let Ok(()) = hands.start_workers(options.sent.workers) else {
         return Err(Ending::NoMemory);
     };
-    let Ok(mut inbox) = Inbox::new(alloc) else {
+    let Ok(mut inbox) = Inbox::new(host.alloc) else {
         return Err(Ending::NoMemory);
     };
-    let Reached::Yes = wire.listen(at) else {
+    let Reached::Yes = wire.listen(options.at) else {
         return Err(Ending::WireFailed);
     };
-    let Reached::Yes = wire.aim(at) else {
+    let Reached::Yes = wire.aim(options.at) else {
         return Err(Ending::WireFailed);
     };
     let inlet = WireInlet::new(&mut inbox, wire);
-    let mut receiver = Receiver::new(alloc, threads_beside(rt, workers), window);
+    let threads = threads_beside(host.rt, options.sent.workers);
+    let mut receiver = Receiver::new(host.alloc, threads, options.window);
     let playout = Playout::new(&mut receiver, output, hands);
     let mut outlet = LoopOutlet { inlet, playout };
-    loop_through(rt, workers, alloc, s, frames, input, &mut outlet)
+    loop_through(host, &options.sent, input, &mut outlet)
 }
 
 // Sends frames, hears what comes, and then ends the receiver's input, unless it broke off.
 fn loop_through<H: Threads + Copy + Send + Sync, S: Source, O: Sink, N: Wire, P: Places>(
-    rt: H,
-    workers: u32,
-    alloc: Global,
-    s: &SendSettings,
-    frames: u32,
+    host: Host<H>,
+    options: &FrameOptions,
     input: &mut S,
     outlet: &mut LoopOutlet<N, H, O, P>,
 ) -> Result<Summary, Ending>
@@ -86,12 +79,12 @@ fn loop_through<H: Threads + Copy + Send + Sync, S: Source, O: Sink, N: Wire, P:
         ≡ outlet.old.playout.output.ghost_name }
     ensures borrows_places { outlet.new.playout.places.ghost_name
         ≡ outlet.old.playout.places.ghost_name }
-    ensures loops { LoopsBetween (sending_view s.now) frames result
+    ensures loops { LoopsBetween (sending_view options.now.sender) options.now.frames result
         (input_of S.left S.faults input.old input.new)
         (loop_state N.told N.faults O.held O.faults P.told P.bound outlet.old)
         (loop_state N.told N.faults O.held O.faults P.told P.bound outlet.new) }
 {
-    match send_frames(rt, workers, alloc, s, frames, input, outlet, &mut NoPace) {
+    match send_frames(host, options, input, outlet, &mut NoPace) {
         Ok(totals) => {
             let tally = outlet.playout.drain()?;
             Ok(looped(&totals, tally))

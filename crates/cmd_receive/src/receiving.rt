@@ -7,62 +7,62 @@ ghost use Rattle.vc_ports.specs.Changes.{changed, output_of, wire_of};
 
 use crate::SessionCount;
 use crate::concluding::conclude;
+use crate::options::ReceiveOptions;
 use crate::playout::Playout;
 use crate::session_playout::SessionPlayout;
 use crate::wire_inlet::WireInlet;
+use cmd_send::Host;
 use link_hearing::hear_all;
 use link_outside::{Inbox, listen};
 use link_receiver::{Receiver, threads_beside};
 use link_report::{Answer, Ending, Summary};
-use std::alloc::Global;
 use std::thread::Threads;
 use vc_ports::{Reached, Sink, Wire};
 use vc_slice::{Hands, Places};
 
-/// Receives at most `packets` datagrams at an address, until `sessions` sessions have ended, with up to
-/// `window` pictures open (2 to 8), and writes the raw frames that they make. A frame is written as soon as
-/// its pictures are released. Each slice that a picture keeps is offered to `workers` workers; those that
-/// they don't decode in time are decoded here. With workers, each picture is also transformed in four parts
-/// side by side. If the wire fails, or `packets` datagrams have come, the frames of the datagrams received so
-/// far are still written. A wire that tells nothing ends once `idle` seconds have brought the session nothing
-/// new; with 0 it never does.
+/// Receives at most `options.packets` datagrams at an address, until `options.sessions` sessions have ended,
+/// with up to `options.window` pictures open (2 to 8), and writes the raw frames that they make. A frame is
+/// written as soon as its pictures are released. Each slice that a picture keeps is offered to
+/// `options.workers` workers; those that they don't decode in time are decoded here. With workers, each
+/// picture is also transformed in four parts side by side. If the wire fails, or `options.packets` datagrams
+/// have come, the frames of the datagrams received so far are still written. A wire that tells nothing ends
+/// once `options.idle` seconds have brought the session nothing new; with 0 it never does.
 pub fn recv<H: Threads + Copy, N: Wire, O: Sink, P: Hands>(
-    rt: H,
-    alloc: Global,
-    window: u8,
-    workers: u32,
-    packets: u32,
-    sessions: u32,
-    idle: u32,
-    at: &str,
+    host: Host<H>,
+    options: &ReceiveOptions,
     wire: &mut N,
     output: &mut O,
     hands: &mut P,
 ) -> Answer
-    requires least { 2 ≤ window }
-    requires most { window ≤ 8 }
+    requires least { 2 ≤ options.now.window }
+    requires most { options.now.window ≤ 8 }
     requires free { P.is_free hands.old }
-    ensures { ReceivesFrom window workers packets sessions at.now result
+    ensures { ReceivesFrom options.now.window options.now.workers options.now.packets options.now.sessions
+        options.now.at.now result
         (wire_of N.told N.faults wire.old wire.new)
         (output_of O.held O.faults output.old output.new)
         (changed P.Places.told hands.old hands.new) }
 {
-    let Ok(()) = hands.start_workers(workers) else {
+    let Ok(()) = hands.start_workers(options.workers) else {
         return Answer::Stopped(Ending::NoMemory);
     };
-    let Ok(mut inbox) = Inbox::new(alloc) else {
+    let Ok(mut inbox) = Inbox::new(host.alloc) else {
         return Answer::Stopped(Ending::NoMemory);
     };
-    let mut receiver = Receiver::new(alloc, threads_beside(rt, workers), window);
-    let Reached::Yes = listen(wire, at, idle) else {
+    let mut receiver = Receiver::new(
+        host.alloc,
+        threads_beside(host.rt, options.workers),
+        options.window,
+    );
+    let Reached::Yes = listen(wire, options.at, options.idle) else {
         let tally = *receiver.tally();
         return Answer::Drained(Summary::Judged { tally }, Ending::WireFailed);
     };
     let mut inlet = WireInlet::new(&mut inbox, wire);
     let playout = Playout::new(&mut receiver, output, hands);
-    let count = SessionCount::new(sessions);
+    let count = SessionCount::new(options.sessions);
     let mut listener = SessionPlayout { playout, count };
-    let heard = hear_wire(packets, &mut inlet, &mut listener);
+    let heard = hear_wire(options.packets, &mut inlet, &mut listener);
     conclude(&mut listener.playout, heard)
 }
 

@@ -3,6 +3,7 @@ ghost use Rattle.cmd_record.specs.Recorders.{HasCounted, RecordsEach, StopsRecor
 ghost use Rattle.cmd_record.specs.Recording.{Records};
 ghost use Rattle.vc_ports.specs.Changes.{output_of, wire_of};
 
+use crate::options::RecordOptions;
 use crate::recorder::Recorder;
 use link_hearing::has_broken;
 use link_outside::listen;
@@ -14,31 +15,28 @@ use vc_types::NoMemory;
 // Any datagram has room in so many bytes.
 const ROOM: usize = 65535;
 
-/// Records the datagrams that come to an address, whatever they are, at most `packets` of them, until
-/// `sessions` sessions have ended, and writes each as an entry of a capture before it asks for the next. If
-/// the wire fails, or `packets` datagrams have come, the counts are still returned. A wire that tells nothing
-/// ends once no datagram has come for `idle` seconds; with 0 it never does.
+/// Records the datagrams that come to an address, whatever they are, at most `options.packets` of them, until
+/// `options.sessions` sessions have ended, and writes each as an entry of a capture before it asks for the
+/// next. If the wire fails, or `options.packets` datagrams have come, the counts are still returned. A wire
+/// that tells nothing ends once no datagram has come for `options.idle` seconds; with 0 it never does.
 pub fn record_wire<N: Wire, O: Sink>(
     alloc: Global,
-    packets: u32,
-    sessions: u32,
-    idle: u32,
-    at: &str,
+    options: &RecordOptions,
     wire: &mut N,
     output: &mut O,
 ) -> Answer
-    ensures { Records packets sessions at.now result
+    ensures { Records options.now.packets options.now.sessions options.now.at.now result
         (wire_of N.told N.faults wire.old wire.new)
         (output_of O.held O.faults output.old output.new) }
 {
     let Ok(mut buffer) = room(alloc) else {
         return Answer::Stopped(Ending::NoMemory);
     };
-    let mut recorder = Recorder::new(sessions);
-    let Reached::Yes = listen(wire, at, idle) else {
+    let mut recorder = Recorder::new(options.sessions);
+    let Reached::Yes = listen(wire, options.at, options.idle) else {
         return Answer::Drained(recorder.summary(), Ending::WireFailed);
     };
-    let recorded = record_each(packets, &mut buffer, &mut recorder, wire, output);
+    let recorded = record_each(options.packets, &mut buffer, &mut recorder, wire, output);
     answer(&recorder, recorded)
 }
 

@@ -3,33 +3,33 @@ ghost use Rattle.vc_ports.specs.Changes.{input_of, wire_of};
 ghost use Rattle.cmd_record.specs.Replayers.{CanSendAgain, PlaysCapture, replay_answer, replay_state};
 ghost use Rattle.cmd_record.specs.Replaying.{Replays};
 
+use crate::options::ReplayOptions;
 use crate::replayer::Replayer;
 use link_hearing::{InputForm, hear_input};
 use link_report::{Answer, Ending};
 use std::alloc::Global;
 use vc_ports::{Pace, Reached, Source, Wire};
 
-/// Sends the datagrams of a capture's entries to an address, each as it is, at most `packets` of them: aims
-/// the wire, then reads entries one after another, and sends the datagram of each before the next is read. It
-/// stops at an entry of more than 65,507 bytes, which no datagram can have. If the wire can't be aimed,
-/// nothing is read. The pace has a datagram wait for the moment of its RTP timestamp, if it has one.
+/// Sends the datagrams of a capture's entries to an address, each as it is, at most `options.packets` of
+/// them: aims the wire, then reads entries one after another, and sends the datagram of each before the next
+/// is read. It stops at an entry of more than 65,507 bytes, which no datagram can have. If the wire can't be
+/// aimed, nothing is read. The pace has a datagram wait for the moment of its RTP timestamp, if it has one.
 pub fn replay_capture<S: Source, N: Wire, P: Pace>(
     alloc: Global,
-    packets: u32,
-    to: &str,
+    options: &ReplayOptions,
     input: &mut S,
     wire: &mut N,
     pace: &mut P,
 ) -> Answer
-    ensures { Replays packets to.now result
+    ensures { Replays options.now.packets options.now.to.now result
         (input_of S.left S.faults input.old input.new)
         (wire_of N.told N.faults wire.old wire.new) }
 {
-    let Reached::Yes = wire.aim(to) else {
+    let Reached::Yes = wire.aim(options.to) else {
         return Answer::Stopped(Ending::WireFailed);
     };
     let mut replayer = Replayer::new(wire, pace);
-    replay_through(alloc, packets, input, &mut replayer)
+    replay_through(alloc, options.packets, input, &mut replayer)
 }
 
 // Sends the datagrams of entries to a wire that is aimed.

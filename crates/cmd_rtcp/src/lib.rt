@@ -14,4 +14,4 @@ mod text;
 mod writing;
 
 pub use command::{rtcp, rtcp_show};
-pub use settings::ReportSettings;
+pub use settings::{InputPart, ReportSettings};

@@ -1,3 +1,5 @@
+use link_hearing::InputForm;
+
 /// How the source of a capture's datagrams is reported on.
 #[derive(Clone, Copy)]
 pub struct ReportSettings<'a> {
@@ -11,4 +13,13 @@ pub struct ReportSettings<'a> {
     pub sender: bool,
     /// The NTP time that the source reports, in seconds: the upper half of it.
     pub ntp: u32,
+}
+
+/// Which part of an input is read.
+#[derive(Clone, Copy)]
+pub struct InputPart {
+    /// How many entries of a capture, or records of a pcap file, are read at most.
+    pub packets: u32,
+    /// Whether the input is a capture or a pcap file.
+    pub form: InputForm,
 }

@@ -35,7 +35,7 @@ numbers_after s frames = record {
 }
 
 -- it has sent these frames
-pub record IsBehindFrames {F : Type 0} (s : Sending) (frames : List Planes) (f : FrameSender F)
+pub record IsBehindFrames {H F : Type 0} (s : Sending) (frames : List Planes) (f : FrameSender H F)
     : Type 0 where
   pub settings_are : sending_view f.sender.settings ≡ s
   pub sendable : AreSendable s frames
@@ -60,15 +60,15 @@ FailsAt s sent frame went broke NoMemory = went []
 FailsAt s sent frame went broke ending = ⊥
 
 -- a frame behind these is sent
-pub record FrameIsTaken {F : Type 0}
-    (s : Sending) (others : List Planes) (frame : Planes) (new : FrameSender F)
+pub record FrameIsTaken {H F : Type 0}
+    (s : Sending) (others : List Planes) (frame : Planes) (new : FrameSender H F)
     (went : List (List ℕ) → Type 0)
     : Type 0 where
   pub sound : frame_fault s frame ≡ None
   pub behind : IsBehindFrames s (others ++ frame ∷ []) new
   pub sent : went (next_sent s others frame)
 
-abbrev pub TakesFrame : {F : Type 0} → Sending → List Planes → Planes → FrameSender F
+abbrev pub TakesFrame : {H F : Type 0} → Sending → List Planes → Planes → FrameSender H F
     → (List (List ℕ) → Type 0) → (List (List ℕ) → OutletFault → Type 0)
     → Result (Unit {0}) Ending → Type 0
 TakesFrame s sent frame new went broke (Ok done) = FrameIsTaken s sent frame new went
@@ -97,8 +97,8 @@ Finishes s frames went broke answer = ⊥
 -- ---- the loop
 
 -- the input ended behind these frames, which were sent
-pub record HasReadAll {F : Type 0}
-    (s : Sending) (most : ℕ) (sender : FrameSender F) (input : InputChange)
+pub record HasReadAll {H F : Type 0}
+    (s : Sending) (most : ℕ) (sender : FrameSender H F) (input : InputChange)
     (went : List (List ℕ) → Type 0)
     : Type 0 where
   pub frames : List Planes
@@ -108,7 +108,7 @@ pub record HasReadAll {F : Type 0}
   pub sent : HasSent s frames input.left.before middle went
   pub end : GaveAll middle input.left.after []
 
-abbrev pub ReadsFrames : {F : Type 0} → Sending → ℕ → FrameSender F → InputChange
+abbrev pub ReadsFrames : {H F : Type 0} → Sending → ℕ → FrameSender H F → InputChange
     → (List (List ℕ) → Type 0) → (List (List ℕ) → OutletFault → Type 0)
     → Result (Unit {0}) Ending → Type 0
 ReadsFrames s most sender input went broke (Ok done) = HasReadAll s most sender input went

@@ -7,37 +7,35 @@ ghost use Rattle.vc_types.specs.Planes.{Planes, planes_in};
 ghost use Rattle.vc_types.specs.SenderSettings.{sending_view};
 
 use crate::totals::Totals;
+use crate::{Encoder, FrameOptions, Host};
 use link_outside::{Outlet, OutletFault};
 use link_report::Ending;
-use link_sender::{Chooser, SendRefusal, Sender};
-use std::alloc::Global;
+use link_sender::{SendRefusal, Sender};
 use std::thread::Threads;
 use vc_ports::{NoPace, Pace};
-use vc_types::{NoMemory, Plane, SendSettings, SliceNeed};
+use vc_types::{NoMemory, Plane, SliceNeed};
 
 /// Sends frames to an outlet, and counts what goes out.
 #[derive(Drop)]
-pub(crate) struct FrameSender<F> {
+pub(crate) struct FrameSender<H, F> {
+    pub(crate) host: Host<H>,
     workers: u32,
     pub(crate) sender: Sender<F>,
     pub(crate) totals: Totals,
 }
 
-impl<F: Fn(&SliceNeed) -> u8 + Sync> FrameSender<F> {
-    /// One that has sent nothing. So many threads will encode each frame.
-    pub(crate) fn new(
-        alloc: Global,
-        s: SendSettings,
-        chooser: Chooser<F>,
-        workers: u32,
-    ) -> FrameSender<F>
-        ensures chooser { result.sender.chooser ≡ chooser }
-        ensures settings { result.sender.settings ≡ s }
-        ensures behind { IsBehindFrames (sending_view s) [] result }
+impl<H: Threads + Copy + Send + Sync, F: Fn(&SliceNeed) -> u8 + Sync> FrameSender<H, F> {
+    /// One that has sent nothing. `options.workers` threads will encode each frame.
+    pub(crate) fn new(encoder: Encoder<H, F>, options: FrameOptions) -> FrameSender<H, F>
+        ensures chooser { result.sender.chooser ≡ encoder.chooser }
+        ensures settings { result.sender.settings ≡ options.sender }
+        ensures behind { IsBehindFrames (sending_view options.sender) [] result }
     {
+        let Encoder { host, chooser } = encoder;
         FrameSender {
-            workers,
-            sender: Sender::new(alloc, s, chooser),
+            host,
+            workers: options.workers,
+            sender: Sender::new(host.alloc, options.sender, chooser),
             totals: Totals {
                 frames: 0,
                 datagrams: 0,
@@ -47,9 +45,8 @@ impl<F: Fn(&SliceNeed) -> u8 + Sync> FrameSender<F> {
     }
 
     /// Sends a frame: its datagrams go out at a pace, or none of them where it is refused.
-    pub(crate) fn take<H: Threads + Copy + Send + Sync, O: Outlet, P: Pace>(
+    pub(crate) fn take<O: Outlet, P: Pace>(
         &mut self,
-        rt: H,
         frame: &[Plane; 3],
         outlet: &mut O,
         pace: &mut P,
@@ -72,7 +69,10 @@ impl<F: Fn(&SliceNeed) -> u8 + Sync> FrameSender<F> {
             → TakesFrame (sending_view self.old.sender.settings) sent (planes_in frame.now) self.new
             (O.carried outlet.old outlet.new) (O.broke outlet.old outlet.new) result }
     {
-        match self.sender.send_frame_joined(rt, self.workers, frame) {
+        match self
+            .sender
+            .send_frame_joined(self.host.rt, self.workers, frame)
+        {
             Ok(datagrams) => {
                 let next = self.sender.next_timestamp();
                 match self.totals.put_all(&datagrams, next, outlet, pace) {

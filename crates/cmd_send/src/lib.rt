@@ -3,7 +3,9 @@
 #![tactic(auto)]
 
 mod frame_sender;
+mod host;
 mod into_capture;
+mod options;
 mod over_wire;
 mod sending;
 mod shape;
@@ -11,7 +13,9 @@ mod totals;
 mod turns;
 
 pub use frame_sender::refusal_ending;
+pub use host::{Encoder, Host};
 pub use into_capture::encode;
+pub use options::{FrameOptions, SendOptions};
 pub use over_wire::send;
 pub use sending::send_frames;
 pub use totals::Totals;

@@ -12,40 +12,38 @@ ghost use Rattle.vc_types.specs.Limits.{shape_fits};
 ghost use Rattle.vc_types.specs.SenderSettings.{sending_view};
 
 use crate::frame_sender::FrameSender;
+use crate::options::RawFrames;
 use crate::shape::frame_shape;
 use crate::totals::Totals;
+use crate::{Encoder, FrameOptions, Host};
 use frame_writer::{FrameReadFault, FrameRoom, read_frame};
 use link_outside::Outlet;
 use link_report::Ending;
 use link_sender::Chooser;
-use std::alloc::Global;
 use std::thread::Threads;
 use vc_ports::{Filled, Pace, Source, fill};
-use vc_types::{SendSettings, Shape, SliceNeed};
+use vc_types::SliceNeed;
 
-/// Sends at most `frames` raw frames: reads them one after another, up to one that is refused or the end of
-/// the input, puts the datagrams that carry each into the outlet, and at the end of the input that of the end
-/// of the sequence. Raw frames are this project's own. A frame's datagrams go out before the next frame is
-/// read, when the pace lets them; one frame and its datagrams are kept, and `workers` threads, at most 64,
-/// encode each frame: none of this is part of the contract. With fewer than two threads everything is done in
-/// turn.
+/// Sends at most `options.frames` raw frames: reads them one after another, up to one that is refused or the
+/// end of the input, puts the datagrams that carry each into the outlet, and at the end of the input that of
+/// the end of the sequence. Raw frames are this project's own. A frame's datagrams go out before the next
+/// frame is read, when the pace lets them; one frame and its datagrams are kept, and `options.workers`
+/// threads, at most 64, encode each frame: none of this is part of the contract. With fewer than two threads
+/// everything is done in turn.
 pub fn send_frames<H: Threads + Copy + Send + Sync, S: Source, O: Outlet, P: Pace>(
-    rt: H,
-    workers: u32,
-    alloc: Global,
-    s: &SendSettings,
-    frames: u32,
+    host: Host<H>,
+    options: &FrameOptions,
     input: &mut S,
     outlet: &mut O,
     pace: &mut P,
 ) -> Result<Totals, Ending>
     requires ready { O.is_ready outlet.old }
-    ensures { SendsFrames (sending_view s.now) frames (sent_answer result)
+    ensures { SendsFrames (sending_view options.now.sender) options.now.frames (sent_answer result)
         (input_of S.left S.faults input.old input.new)
         (O.carried outlet.old outlet.new) (O.broke outlet.old outlet.new) }
 {
-    let chooser = Chooser::by(s.choice, |_need: &SliceNeed| 0);
-    send_by(rt, workers, alloc, s, frames, chooser, input, outlet, pace)
+    let chooser = Chooser::by(options.sender.choice, |_need: &SliceNeed| 0);
+    send_by(Encoder { host, chooser }, *options, input, outlet, pace)
 }
 
 // The same by a chooser that chooses as the settings do.
@@ -56,36 +54,27 @@ fn send_by<
     O: Outlet,
     P: Pace,
 >(
-    rt: H,
-    workers: u32,
-    alloc: Global,
-    s: &SendSettings,
-    frames: u32,
-    chooser: Chooser<F>,
+    encoder: Encoder<H, F>,
+    options: FrameOptions,
     input: &mut S,
     outlet: &mut O,
     pace: &mut P,
 ) -> Result<Totals, Ending>
-    requires callable { F.IsAlwaysCallable chooser.choose }
-    requires range { AnswersAtMost127 F.Fn chooser.choose }
-    requires chooses { ChoosesAs F.Fn chooser (sending_view s.now) }
-    requires wants { chooser.wants_lens ≡ wants_lengths s.now.choice }
+    requires callable { F.IsAlwaysCallable encoder.chooser.choose }
+    requires range { AnswersAtMost127 F.Fn encoder.chooser.choose }
+    requires chooses { ChoosesAs F.Fn encoder.chooser (sending_view options.sender) }
+    requires wants { encoder.chooser.wants_lens ≡ wants_lengths options.sender.choice }
     requires ready { O.is_ready outlet.old }
-    ensures { SendsFrames (sending_view s.now) frames (sent_answer result)
+    ensures { SendsFrames (sending_view options.sender) options.frames (sent_answer result)
         (input_of S.left S.faults input.old input.new)
         (O.carried outlet.old outlet.new) (O.broke outlet.old outlet.new) }
 {
-    let mut sender = FrameSender::new(alloc, *s, chooser, workers);
-    send_each(
-        rt,
-        alloc,
-        frames,
-        &frame_shape(s),
-        &mut sender,
-        input,
-        outlet,
-        pace,
-    )?;
+    let raw = RawFrames {
+        most: options.frames,
+        shape: frame_shape(&options.sender),
+    };
+    let mut sender = FrameSender::new(encoder, options);
+    send_each(raw, &mut sender, input, outlet, pace)?;
     sender.finish(outlet)
 }
 
@@ -97,11 +86,8 @@ fn send_each<
     O: Outlet,
     P: Pace,
 >(
-    rt: H,
-    alloc: Global,
-    frames: u32,
-    shape: &Shape,
-    sender: &mut FrameSender<F>,
+    raw: RawFrames,
+    sender: &mut FrameSender<H, F>,
     input: &mut S,
     outlet: &mut O,
     pace: &mut P,
@@ -113,21 +99,22 @@ fn send_each<
     requires wants { sender.old.sender.chooser.wants_lens
         ≡ wants_lengths sender.old.sender.settings.choice }
     requires behind { IsBehindFrames (sending_view sender.old.sender.settings) [] sender.old }
-    requires shape { shape.now ≡ frame_shape (sending_view sender.old.sender.settings) }
-    requires fits { IsTrue (shape_fits shape.now) }
+    requires shape { raw.shape ≡ frame_shape (sending_view sender.old.sender.settings) }
+    requires fits { IsTrue (shape_fits raw.shape) }
     requires ready { O.is_ready outlet.old }
     ensures ready { OnOk result (O.is_ready outlet.new) }
     ensures settings { sender.new.sender.settings ≡ sender.old.sender.settings }
-    ensures value { ReadsFrames (sending_view sender.old.sender.settings) frames sender.new
+    ensures value { ReadsFrames (sending_view sender.old.sender.settings) raw.most sender.new
         (input_of S.left S.faults input.old input.new)
         (O.carried outlet.old outlet.new) (O.broke outlet.old outlet.new) result }
     ensures input_cause { HasCause (S.faults input.old) (S.faults input.new)
         (result ≡ Err Ending.InputFailed) }
 {
+    let alloc = sender.host.alloc;
     let mut room = FrameRoom::new(alloc);
-    for frame in 0..frames {
-        match read_frame(alloc, input, shape, &mut room) {
-            Ok(Some(planes)) => match sender.take(rt, &planes, outlet, pace) {
+    for frame in 0..raw.most {
+        match read_frame(alloc, input, &raw.shape, &mut room) {
+            Ok(Some(planes)) => match sender.take(&planes, outlet, pace) {
                 Ok(()) => room.keep(planes),
                 Err(ending) => return Err(ending),
             },
@@ -136,7 +123,7 @@ fn send_each<
         }
     }
     match fill(input, &mut [0; 1]) {
-        Filled::Whole => Err(Ending::FrameLimit { limit: frames }),
+        Filled::Whole => Err(Ending::FrameLimit { limit: raw.most }),
         Filled::End(_) => Ok(()),
         Filled::Failed(_) => Err(Ending::InputFailed),
     }

@@ -1,13 +1,11 @@
-ghost use Rattle.std.specs.Prelude.{◌≡◌, ◌≤◌, IsTrue, None, Err};
+ghost use Rattle.std.specs.Prelude.{◌≡◌, None, Err};
 ghost use Rattle.vc_ports.specs.Changes.{input_of, output_of};
 ghost use Rattle.vc_ports.specs.Faults.{HasCause};
 ghost use Rattle.cmd_stream.specs.PackEndings.{unpacked_ended};
 ghost use Rattle.cmd_stream.specs.PackLooping.{PackLoopEnded};
-ghost use Rattle.cmd_stream.specs.Packs.{Packs, pack_settings};
+ghost use Rattle.cmd_stream.specs.Packs.{Packs};
 ghost use Rattle.cmd_stream.specs.PackViews.{CountsFew, IsBehindUnits};
-ghost use Rattle.vc_types.specs.Rates.{rate_view};
 ghost use Rattle.vc_types.specs.SenderSettings.{packing_view};
-ghost use Rattle.vc_types.specs.Settings.{within};
 
 use crate::pack_fault::UnitRefusal;
 use crate::reading_ended;
@@ -15,7 +13,7 @@ use crate::stream::StreamPacker;
 use link_report::{Ending, Summary};
 use std::alloc::Global;
 use vc_ports::{Filled, Sink, Source, fill};
-use vc_types::{END_OF_SEQUENCE, FrameRate, PackSettings};
+use vc_types::{END_OF_SEQUENCE, PackSettings};
 use vc_units::{UnitReader, next_unit};
 
 /// Why no unit more is read.
@@ -30,33 +28,20 @@ pub(crate) enum Stop {
 /// Packs an elementary stream into a capture: reads at most `packets` data units, up to an end of sequence, a
 /// unit that is refused or the end of the input, and writes the entries of the datagrams that carry its
 /// pictures in their own bytes, and of an end of sequence after the last (RFC 8450, 4; captures are this
-/// project's own). Only one unit and its datagrams are kept; this is not part of the contract.
+/// project's own). Pictures are fields if `settings.fields` says so, until a header tells. Only one unit and
+/// its datagrams are kept; this is not part of the contract.
 pub fn pack<S: Source, O: Sink>(
     alloc: Global,
     packets: u32,
-    size: u32,
-    ssrc: u32,
-    pt: u8,
-    seq: u32,
-    rate: FrameRate,
+    settings: &PackSettings,
     input: &mut S,
     output: &mut O,
 ) -> Result<Summary, Ending>
-    requires size { IsTrue (within 64 65507 size) }
-    requires pt { pt ≤ 127 }
-    ensures { Packs packets (pack_settings size ssrc pt seq (rate_view rate)) result
+    ensures { Packs packets (packing_view settings.now) result
         (input_of S.left S.faults input.old input.new)
         (output_of O.held O.faults output.old output.new) }
 {
-    let settings = PackSettings {
-        size,
-        ssrc,
-        pt,
-        seq,
-        rate,
-        fields: false,
-    };
-    let mut packer = StreamPacker::new(alloc, settings);
+    let mut packer = StreamPacker::new(alloc, *settings);
     match pack_units(alloc, packets, &mut packer, input, output)? {
         Stop::Ended => packer.finish(output),
         Stop::AtLimit => match fill(input, &mut [0; 1]) {

@@ -12,9 +12,10 @@ ghost use Rattle.cmd_stream.specs.Stream.{decoded, picture_in};
 ghost use Rattle.cmd_stream.specs.PlayViews.{picture_of};
 
 use crate::coding::Coding;
-use crate::play_slices::take_slices;
+use crate::play_slices::{PictureHead, take_slices};
 use byteorder::{BigEndian, ByteOrder};
 use bytes::Bytes;
+use cmd_send::Host;
 use picture_build::PictureBuilder;
 use std::alloc::Global;
 use std::thread::Threads;
@@ -30,6 +31,13 @@ const NUMBER_BYTES: usize = 4;
 pub(crate) struct Picture {
     pub(crate) number: u32,
     pub(crate) planes: [Plane; 3],
+}
+
+/// A picture's number, and its own bytes: its transform parameters and its slices.
+#[derive(Drop)]
+struct CodedPicture {
+    number: u32,
+    bytes: Bytes,
 }
 
 /// The memory that the last picture was decoded in.
@@ -61,8 +69,7 @@ impl KeptMemory {
 /// The picture of a data unit's body; none where it is refused. The memory is kept from picture to picture.
 #[tactic(auto, unfolding(crate::specs::Stream::picture_in))]
 pub(crate) fn read_picture<H: Threads + Copy + Send + Sync>(
-    rt: H,
-    alloc: Global,
+    host: Host<H>,
     coding: Coding,
     header: &Header,
     kept: &mut KeptMemory,
@@ -81,7 +88,7 @@ pub(crate) fn read_picture<H: Threads + Copy + Send + Sync>(
         return Err(NoMemory);
     };
     bytes.advance(NUMBER_BYTES);
-    match planes_by(rt, alloc, coding, header, kept, number, bytes)? {
+    match planes_by(host, coding, header, kept, CodedPicture { number, bytes })? {
         Some(planes) => Ok(Some(Picture { number, planes })),
         None => Ok(None),
     }
@@ -89,29 +96,26 @@ pub(crate) fn read_picture<H: Threads + Copy + Send + Sync>(
 
 // The planes of a picture's own bytes, by how it is coded.
 fn planes_by<H: Threads + Copy + Send + Sync>(
-    rt: H,
-    alloc: Global,
+    host: Host<H>,
     coding: Coding,
     header: &Header,
     kept: &mut KeptMemory,
-    number: u32,
-    bytes: Bytes,
+    coded: CodedPicture,
 ) -> Result<Option<[Plane; 3]>, NoMemory>
     ensures value { IfOk result (λ planes.
-        option_map planes_in planes ≡ decoded coding (sequence_of header.now) bytes) }
+        option_map planes_in planes ≡ decoded coding (sequence_of header.now) coded.bytes) }
     ensures shape { IfOk result (λ planes. IfSome planes (λ p.
         HaveShape (picture_shape (sequence_of header.now)) (planes_in p))) }
 {
     match coding {
-        Coding::HighQuality => read_planes(rt, alloc, header, &mut kept.builder, number, bytes),
-        Coding::LowDelay => read_low_planes(rt, alloc, header, &mut kept.low, bytes.as_slice()),
+        Coding::HighQuality => read_planes(host, header, &mut kept.builder, coded),
+        Coding::LowDelay => read_low_planes(host, header, &mut kept.low, coded.bytes.as_slice()),
     }
 }
 
 // The planes of a low-delay picture's own bytes: its transform parameters and its slices.
 fn read_low_planes<H: Threads + Copy + Send + Sync>(
-    rt: H,
-    alloc: Global,
+    host: Host<H>,
     header: &Header,
     kept: &mut Option<LowRoom>,
     bytes: &[u8],
@@ -125,13 +129,12 @@ fn read_low_planes<H: Threads + Copy + Send + Sync>(
         return Ok(None);
     };
     let (_, slices) = bytes.split_at(used);
-    low_planes_of(rt, alloc, &plan, kept, slices)
+    low_planes_of(host, &plan, kept, slices)
 }
 
 // The planes of a low-delay picture's slices.
 fn low_planes_of<H: Threads + Copy + Send + Sync>(
-    rt: H,
-    alloc: Global,
+    host: Host<H>,
     plan: &LowPlan,
     kept: &mut Option<LowRoom>,
     slices: &[u8],
@@ -141,9 +144,9 @@ fn low_planes_of<H: Threads + Copy + Send + Sync>(
 {
     let mut room = match kept.take() {
         Some(room) => room,
-        None => LowRoom::new(alloc),
+        None => LowRoom::new(host.alloc),
     };
-    let planes = decode_low_kept(rt, alloc, plan, slices, &mut room);
+    let planes = decode_low_kept(host.rt, host.alloc, plan, slices, &mut room);
     *kept = Some(room);
     match planes {
         Ok(planes) => Ok(Some(planes)),
@@ -155,60 +158,55 @@ fn low_planes_of<H: Threads + Copy + Send + Sync>(
 
 // The planes of a high-quality picture's own bytes: its transform parameters and its slices.
 fn read_planes<H: Threads + Copy + Send + Sync>(
-    rt: H,
-    alloc: Global,
+    host: Host<H>,
     header: &Header,
     kept: &mut Option<PictureBuilder>,
-    number: u32,
-    bytes: Bytes,
+    coded: CodedPicture,
 ) -> Result<Option<[Plane; 3]>, NoMemory>
     ensures value { IfOk result (λ planes.
-        option_map planes_in planes ≡ decoded_planes (sequence_of header.now) bytes) }
+        option_map planes_in planes ≡ decoded_planes (sequence_of header.now) coded.bytes) }
     ensures shape { IfOk result (λ planes. IfSome planes (λ p.
         HaveShape (picture_shape (sequence_of header.now)) (planes_in p))) }
 {
-    let Ok((plan, used)) = read_params(header, bytes.as_slice()) else {
+    let Ok((plan, used)) = read_params(header, coded.bytes.as_slice()) else {
         return Ok(None);
     };
-    let mut slices = bytes;
+    let number = coded.number;
+    let mut slices = coded.bytes;
     slices.advance(used);
-    built(rt, alloc, &plan, kept, number, slices)
+    built(host, &PictureHead { number, plan }, kept, slices)
 }
 
 // The planes of a picture's slices.
 fn built<H: Threads + Copy + Send + Sync>(
-    rt: H,
-    alloc: Global,
-    plan: &Plan,
+    host: Host<H>,
+    head: &PictureHead,
     kept: &mut Option<PictureBuilder>,
-    number: u32,
     slices: Bytes,
 ) -> Result<Option<[Plane; 3]>, NoMemory>
-    ensures value { IfOk result (IsBuilt (parameters_of plan.now) slices) }
+    ensures value { IfOk result (IsBuilt (parameters_of head.now.plan) slices) }
 {
-    let mut builder = begun(alloc, *plan, kept.take())?;
-    let planes = planes_of(rt, alloc, plan, number, slices, &mut builder);
+    let mut builder = begun(host.alloc, head.plan, kept.take())?;
+    let planes = planes_of(host, head, slices, &mut builder);
     *kept = Some(builder);
     planes
 }
 
 // What the builder makes of the slices.
 fn planes_of<H: Threads + Copy + Send + Sync>(
-    rt: H,
-    alloc: Global,
-    plan: &Plan,
-    number: u32,
+    host: Host<H>,
+    head: &PictureHead,
     slices: Bytes,
     builder: &mut PictureBuilder,
 ) -> Result<Option<[Plane; 3]>, NoMemory>
-    requires { builder.old ≡ no_slices (parameters_of plan.now) }
-    ensures value { IfOk result (IsBuilt (parameters_of plan.now) slices) }
+    requires { builder.old ≡ no_slices (parameters_of head.now.plan) }
+    ensures value { IfOk result (IsBuilt (parameters_of head.now.plan) slices) }
 {
-    let all = take_slices(alloc, plan, number, slices, builder)?;
+    let all = take_slices(host.alloc, head, slices, builder)?;
     if !all {
         return Ok(None);
     }
-    Ok(Some(builder.planes_joined(rt)?))
+    Ok(Some(builder.planes_joined(host.rt)?))
 }
 
 // A builder that no slice of the plan came to: the one that was kept, if it is of the same plan.

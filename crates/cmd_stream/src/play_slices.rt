@@ -11,21 +11,27 @@ use std::alloc::Global;
 use vc_slice::{SliceDone, SliceJob, cut, decode};
 use vc_types::{NoMemory, Plan};
 
+/// A picture's number and plan.
+#[derive(Clone, Copy)]
+pub(crate) struct PictureHead {
+    pub(crate) number: u32,
+    pub(crate) plan: Plan,
+}
+
 /// Puts a picture's slices, one after another at the front of the bytes, into a builder of its plan; false
 /// where a slice is cut short or unsound.
 pub(crate) fn take_slices(
     alloc: Global,
-    plan: &Plan,
-    number: u32,
+    head: &PictureHead,
     bytes: Bytes,
     builder: &mut PictureBuilder,
 ) -> Result<bool, NoMemory>
-    requires { builder.old ≡ no_slices (parameters_of plan.now) }
-    ensures value { IfOk result (TookSlices (parameters_of plan.now) bytes builder.new) }
+    requires { builder.old ≡ no_slices (parameters_of head.now.plan) }
+    ensures value { IfOk result (TookSlices (parameters_of head.now.plan) bytes builder.new) }
 {
     let mut rest = bytes.as_slice();
-    for index in 0..plan.slices_x * plan.slices_y {
-        match take_slice(alloc, plan, number, index, rest, builder)? {
+    for index in 0..head.plan.slices_x * head.plan.slices_y {
+        match take_slice(alloc, head, index, rest, builder)? {
             Some(behind) => rest = behind,
             None => return Ok(false),
         }
@@ -37,25 +43,24 @@ pub(crate) fn take_slices(
 // short or unsound.
 fn take_slice<'a>(
     alloc: Global,
-    plan: &Plan,
-    number: u32,
+    head: &PictureHead,
     index: u32,
     rest: &'a [u8],
     builder: &mut PictureBuilder,
 ) -> Result<Option<&'a [u8]>, NoMemory>
-    requires plan { builder.old.parameters ≡ parameters_of plan.now }
-    requires index { index < slice_count (parameters_of plan.now) }
+    requires plan { builder.old.parameters ≡ parameters_of head.now.plan }
+    requires index { index < slice_count (parameters_of head.now.plan) }
     requires once { slice_that_came builder.old index ≡ None }
     ensures value { IfOk result (λ taken. MatchOption taken
-        (GaveSlice (parameters_of plan.now) index rest.now [] None)
-        (λ behind. TookSlice (parameters_of plan.now) index rest.now behind.now
+        (GaveSlice (parameters_of head.now.plan) index rest.now [] None)
+        (λ behind. TookSlice (parameters_of head.now.plan) index rest.now behind.now
         builder.old builder.new true)) }
 {
-    let Ok(len) = cut(plan.prefix, plan.scaler, rest) else {
+    let Ok(len) = cut(head.plan.prefix, head.plan.scaler, rest) else {
         return Ok(None);
     };
     let (bytes, behind) = rest.split_at(len);
-    if put_slice(alloc, plan, number, index, bytes, builder)? {
+    if put_slice(alloc, head, index, bytes, builder)? {
         Ok(Some(behind))
     } else {
         Ok(None)
@@ -65,18 +70,17 @@ fn take_slice<'a>(
 // Decodes a slice to its place, or by itself where it may be too wide for that.
 fn put_slice(
     alloc: Global,
-    plan: &Plan,
-    number: u32,
+    head: &PictureHead,
     index: u32,
     bytes: &[u8],
     builder: &mut PictureBuilder,
 ) -> Result<bool, NoMemory>
-    requires plan { builder.old.parameters ≡ parameters_of plan.now }
-    requires index { index < slice_count (parameters_of plan.now) }
+    requires plan { builder.old.parameters ≡ parameters_of head.now.plan }
+    requires index { index < slice_count (parameters_of head.now.plan) }
     requires once { slice_that_came builder.old index ≡ None }
-    requires whole { slice_length plan.now.prefix plan.now.scaler bytes.now
+    requires whole { slice_length head.now.plan.prefix head.now.plan.scaler bytes.now
         ≡ Some (length bytes.now) }
-    ensures value { IfOk result (TookWhole (parameters_of plan.now) index bytes.now
+    ensures value { IfOk result (TookWhole (parameters_of head.now.plan) index bytes.now
         builder.old builder.new) }
 {
     match builder.put(index, bytes) {
@@ -84,8 +88,8 @@ fn put_slice(
         Err(NotPut::Unsound(_)) => Ok(false),
         Err(NotPut::Wide) => {
             let job = SliceJob {
-                plan: *plan,
-                number: number as u64,
+                plan: head.plan,
+                number: head.number as u64,
                 index,
                 bytes: copied(alloc, bytes)?,
             };

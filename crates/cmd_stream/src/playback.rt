@@ -14,6 +14,7 @@ use crate::coding::Coding;
 use crate::pairs::{is_pair, waits};
 use crate::picture::{KeptMemory, Picture, read_picture};
 use crate::play_fault::TakeFault;
+use cmd_send::Host;
 use field_pairs::weave;
 use frame_writer::{is_wide, write_frame};
 use std::alloc::Global;
@@ -85,8 +86,7 @@ impl Playback {
     /// Takes the picture of a data unit's body, and writes the frame that it completes.
     pub(crate) fn show<H: Threads + Copy + Send + Sync, O: Sink>(
         &mut self,
-        rt: H,
-        alloc: Global,
+        host: Host<H>,
         body: Vec<u8>,
         output: &mut O,
     ) -> Result<(), TakeFault>
@@ -101,14 +101,14 @@ impl Playback {
         ensures shape { OnOk result (HasShape (playback_state self.new)) }
     {
         let kept = &mut self.kept;
-        let Some(picture) = read_picture(rt, alloc, self.coding, &self.header, kept, body)? else {
+        let Some(picture) = read_picture(host, self.coding, &self.header, kept, body)? else {
             return Err(TakeFault::Refused);
         };
-        let frame = self.completed(alloc, picture)?;
+        let frame = self.completed(host.alloc, picture)?;
         self.pictures += 1;
         if let Some(planes) = frame {
             let two = is_wide(&self.header.shape());
-            write_frame(alloc, output, &planes, two)?;
+            write_frame(host.alloc, output, &planes, two)?;
             self.kept.reuse(planes);
             self.frames += 1;
         }

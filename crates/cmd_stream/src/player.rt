@@ -11,8 +11,8 @@ ghost use Rattle.cmd_stream.specs.PlayViews.{player_state};
 
 use crate::play_fault::TakeFault;
 use crate::playback::Playback;
+use cmd_send::Host;
 use link_report::Summary;
-use std::alloc::Global;
 use std::thread::Threads;
 use vc_ports::Sink;
 use vc_types::{HIGH_QUALITY_PICTURE, LOW_DELAY_PICTURE, SEQUENCE_HEADER};
@@ -35,8 +35,7 @@ impl Player {
     /// Takes a unit, and writes the frame that it completes.
     pub(crate) fn take<H: Threads + Copy + Send + Sync, O: Sink>(
         &mut self,
-        rt: H,
-        alloc: Global,
+        host: Host<H>,
         unit: Unit,
         output: &mut O,
     ) -> Result<(), TakeFault>
@@ -55,7 +54,7 @@ impl Player {
             SEQUENCE_HEADER => self.agree(&unit.body),
             HIGH_QUALITY_PICTURE | LOW_DELAY_PICTURE => match &mut self.stream {
                 Some(stream) if unit.code == stream.coding.picture_code() => {
-                    stream.show(rt, alloc, unit.body, output)
+                    stream.show(host, unit.body, output)
                 }
                 Some(_) => Err(TakeFault::Refused),
                 None => Err(TakeFault::Refused),

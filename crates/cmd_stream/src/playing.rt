@@ -12,8 +12,8 @@ ghost use Rattle.cmd_stream.specs.PlayViews.{player_state};
 
 use crate::play_fault::TakeFault;
 use crate::player::Player;
+use cmd_send::Host;
 use link_report::{Ending, Summary};
-use std::alloc::Global;
 use std::thread::Threads;
 use vc_ports::{Filled, Sink, Source, fill};
 use vc_types::END_OF_SEQUENCE;
@@ -34,8 +34,7 @@ pub(crate) enum Stop {
 /// is complete. Four threads share the transform of a picture, and only one unit, one picture and at most one
 /// earlier field are kept; this is not part of the contract.
 pub fn play<H: Threads + Copy + Send + Sync, S: Source, O: Sink>(
-    rt: H,
-    alloc: Global,
+    host: Host<H>,
     packets: u32,
     input: &mut S,
     output: &mut O,
@@ -44,7 +43,7 @@ pub fn play<H: Threads + Copy + Send + Sync, S: Source, O: Sink>(
         (output_of O.held O.faults output.old output.new) }
 {
     let mut player = Player::new();
-    match play_all(rt, alloc, packets, &mut player, input, output) {
+    match play_all(host, packets, &mut player, input, output) {
         Ok(()) => Ok(player.summary()),
         Err(ending) => Err(ending),
     }
@@ -52,8 +51,7 @@ pub fn play<H: Threads + Copy + Send + Sync, S: Source, O: Sink>(
 
 // Plays the units of a stream, and asks for the end behind the last of so many.
 fn play_all<H: Threads + Copy + Send + Sync, S: Source, O: Sink>(
-    rt: H,
-    alloc: Global,
+    host: Host<H>,
     packets: u32,
     player: &mut Player,
     input: &mut S,
@@ -66,7 +64,7 @@ fn play_all<H: Threads + Copy + Send + Sync, S: Source, O: Sink>(
         (input_of S.left S.faults input.old input.new)
         (output_of O.held O.faults output.old output.new) }
 {
-    match play_units(rt, alloc, packets, player, input, output)? {
+    match play_units(host, packets, player, input, output)? {
         Stop::Ended => Ok(()),
         Stop::AtLimit => match fill(input, &mut [0; 1]) {
             Filled::Whole => Err(Ending::PacketLimit { limit: packets }),
@@ -78,8 +76,7 @@ fn play_all<H: Threads + Copy + Send + Sync, S: Source, O: Sink>(
 
 // Plays so many units at most.
 fn play_units<H: Threads + Copy + Send + Sync, S: Source, O: Sink>(
-    rt: H,
-    alloc: Global,
+    host: Host<H>,
     packets: u32,
     player: &mut Player,
     input: &mut S,
@@ -94,13 +91,12 @@ fn play_units<H: Threads + Copy + Send + Sync, S: Source, O: Sink>(
     ensures output_cause { HasCause (O.faults output.old) (O.faults output.new)
         (result ≡ Err Ending.OutputFailed) }
 {
-    let mut reader = UnitReader::new(alloc, input);
-    play_with(rt, alloc, packets, player, &mut reader, output)
+    let mut reader = UnitReader::new(host.alloc, input);
+    play_with(host, packets, player, &mut reader, output)
 }
 
 fn play_with<H: Threads + Copy + Send + Sync, S: Source, O: Sink>(
-    rt: H,
-    alloc: Global,
+    host: Host<H>,
     packets: u32,
     player: &mut Player,
     reader: &mut UnitReader<S>,
@@ -123,7 +119,7 @@ fn play_with<H: Threads + Copy + Send + Sync, S: Source, O: Sink>(
         match next_unit(reader) {
             Ok(Some(unit)) => {
                 let is_last = unit.code == END_OF_SEQUENCE;
-                match player.take(rt, alloc, unit, output) {
+                match player.take(host, unit, output) {
                     Ok(()) if is_last => return Ok(Stop::Ended),
                     Ok(()) => {}
                     Err(fault) => return Err(taking_ended(fault, place)),

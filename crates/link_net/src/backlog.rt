@@ -2,6 +2,7 @@ ghost use Rattle.std.specs.Prelude.{◌≡◌, ◌≤◌, length, vec_len, IfSom
 ghost use Rattle.link_net.specs.Fitting.{Fits};
 
 use crate::launcher::Launcher;
+use crate::live_wire::Limits;
 use crate::notes::BacklogNotes;
 use crate::reader::{Reader, Shared};
 use crate::socket_buffer::widen;
@@ -38,20 +39,19 @@ pub struct Backlog {
 }
 
 impl Backlog {
-    /// Listens at the address, with room for so many bytes, and with as many of those asked for as the system
-    /// gives its own buffer.
+    /// Listens at the address, with as much room as the limits say, and with as many of the bytes asked for
+    /// as the system gives its own buffer.
     pub fn start<H: Net>(
         rt: &H,
         alloc: Global,
         at: &str,
-        room: usize,
-        system: u32,
+        limits: Limits,
         launcher: &Launcher,
     ) -> io::Result<Backlog> {
         let socket = UdpSocket::bind(rt, at)?;
         socket.set_nonblocking(true)?;
-        let system = widen(&socket, system);
-        let (end, ring) = RingBuffer::new(alloc, room)?;
+        let system = widen(&socket, limits.system);
+        let (end, ring) = RingBuffer::new(alloc, limits.room)?;
         let shared = Arc::new(alloc, Shared::new())?;
         let reader = Reader {
             socket,

@@ -105,15 +105,7 @@ impl<H: Threads + Wait + Net + Clock + Copy> Wire for LiveWire<H> {
 
     fn listen(&mut self, at: &str) -> Reached {
         self.address = format!(in self.alloc; "{at}").ok();
-        let limits = self.limits;
-        match Backlog::start(
-            &self.rt,
-            self.alloc,
-            at,
-            limits.room,
-            limits.system,
-            &self.launcher,
-        ) {
+        match Backlog::start(&self.rt, self.alloc, at, self.limits, &self.launcher) {
             Ok(backlog) => {
                 let before = mem::replace(&mut self.backlog, Some(backlog));
                 self.kept = Instant::now(&self.rt).ok();

@@ -19,8 +19,12 @@ use std::thread::Threads;
 use vc_slice::{Places, RunDone, RunJob, RunLoad, SliceJob, decode_run};
 use vc_types::NoMemory;
 
-// How many rooms for strips are kept.
-const MOST_ROOMS: usize = 64;
+// How many rooms for strips are kept: as many as there may be runs out, so that none is let go that is soon
+// wanted again.
+const MOST_ROOMS: usize = 256;
+
+// How many runs are asked for, those that are out longest, where one finds no place.
+const FEW_ASKED: usize = 8;
 
 // How many runs may be out before those that are decoded are taken back early.
 const FEW_OUT: usize = 24;
@@ -90,8 +94,8 @@ impl<H: Threads + Copy> Reception<H> {
         Ok(())
     }
 
-    // Offers a run. Where it is handed back while something may come, each place is asked, and if
-    // something came the run is offered once more. Answers whether something may still come.
+    // Offers a run. Where it is handed back while something may come, the runs that are out longest are asked
+    // for, and if something came the run is offered once more. Answers whether something may still come.
     fn offer<P: Places>(
         &mut self,
         load: RunLoad,
@@ -114,7 +118,8 @@ impl<H: Threads + Copy> Reception<H> {
         self.offer_again(load, places)
     }
 
-    // Asks each place, and offers a run if something came back. Answers whether something came.
+    // Asks for the runs that are out longest, and offers a run if something came back. Answers whether
+    // something came.
     fn offer_again<P: Places>(&mut self, load: RunLoad, places: &mut P) -> Result<bool, NoMemory>
         requires below { PlacesAreBelow (P.bound places.old) self.old.out }
         ensures exchanged { OnOk result ((calls : List PlaceCall)
@@ -122,7 +127,7 @@ impl<H: Threads + Copy> Reception<H> {
             × MayOffer (jobs_of_run load.job) (proposed_in (exchanges_of calls))) }
         ensures places { KeepsPlaces P.told P.bound places.old places.new self.new.out }
     {
-        if !self.ask_all(places)? {
+        if !self.ask_first(places)? {
             self.make(load)?;
             return Ok(false);
         }
@@ -264,6 +269,21 @@ impl<H: Threads + Copy> Reception<H> {
             return Ok(());
         };
         self.make_run(load)
+    }
+
+    // Asks the places of the few runs that are out longest. Answers whether something came back.
+    fn ask_first<P: Places>(&mut self, places: &mut P) -> Result<bool, NoMemory>
+        requires below { PlacesAreBelow (P.bound places.old) self.old.out }
+        ensures exchanged { OnOk result ((calls : List PlaceCall)
+            × IsExchanged (P.told places.old) (P.told places.new) self.old self.new calls
+            × (proposed_in (exchanges_of calls) ≡ [])) }
+        ensures places { KeepsPlaces P.told P.bound places.old places.new self.new.out }
+    {
+        let mut came = false;
+        for i in (0..FEW_ASKED).rev() {
+            came = self.ask(i, places)? || came;
+        }
+        Ok(came)
     }
 
     // Asks the place of each run that is out. Answers whether something came back.

@@ -79,17 +79,28 @@ const LIMITS: Limits = Limits {
     system: 64 << 20,
 };
 
+// The streams of a run, each borrowed.
+#[derive(Drop)]
+struct Streams<'a, 'b, 'c, S, O, E> {
+    input: &'a mut S,
+    output: &'b mut O,
+    report: &'c mut E,
+}
+
 // Prints the page that the words ask for. Otherwise does what they say with a crew and a wire at hand, which
 // are stopped whatever that came to.
 fn run<H: Threads + Wait + Net + Clock + Copy + Send + Sync + 'static, S: Source, O: Sink, E: Sink>(
     rt: H,
     alloc: Global,
     words: &Words,
-    input: &mut S,
-    output: &mut O,
-    report: &mut E,
+    streams: Streams<S, O, E>,
     launcher: Launcher,
 ) -> u8 {
+    let Streams {
+        input,
+        output,
+        report,
+    } = streams;
     if let Some(status) = print_page(alloc, words, output) {
         return status;
     }
@@ -139,16 +150,16 @@ fn main(rt: HostRuntime) -> ExitCode {
     let Ok(start) = Box::new(rt.alloc(), move |reader: Reader| reader.start(rt)) else {
         return ExitCode::from(Ending::NoMemory.status());
     };
-    ExitCode::from(run(
-        rt,
-        rt.alloc(),
-        &words,
-        &mut StdSource::new(stdin),
-        &mut StdSink::new(Awaited {
-            stream: rt.stdout(),
-            number: 1,
-        }),
-        &mut report,
-        Launcher::new(start),
-    ))
+    let mut input = StdSource::new(stdin);
+    let mut output = StdSink::new(Awaited {
+        stream: rt.stdout(),
+        number: 1,
+    });
+    let streams = Streams {
+        input: &mut input,
+        output: &mut output,
+        report: &mut report,
+    };
+    let launcher = Launcher::new(start);
+    ExitCode::from(run(rt, rt.alloc(), &words, streams, launcher))
 }

@@ -15,7 +15,7 @@ pub check_all-requires-clause-chooses : goal.check_all-requires-clause-chooses
 check_all-requires-clause-chooses g c = λ κs lives.
     let settings = ap sending_view c.new-sender.ensures.settings ∙ c.default_settings.ensures in
     subst (λ chooser. ChoosesAs g.F.Fn chooser (sending_view c.new-sender.result.settings)) (sym c.new-sender.ensures.chooser)
-    (subst (ChoosesAs g.F.Fn c.args.chooser) (sym settings) c.requires.chooses)
+    (subst (ChoosesAs g.F.Fn c.args.encoder.chooser) (sym settings) c.requires.chooses)
 
 pub returns-clause-checkable : goal.returns-clause-checkable
 returns-clause-checkable g c = c.check_all.ensures.checkable c.args.window c.new-checker.ensures.checked

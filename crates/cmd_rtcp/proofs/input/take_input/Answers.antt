@@ -15,7 +15,7 @@ returns g c =
     let mid = writing_state g.O.Sink.held g.O.Sink.faults heard.new.writing in
     let y = writing_state g.O.Sink.held g.O.Sink.faults out in
     lent_back _ _ g.O.Sink.held g.O.Sink.faults g.S.Scribe.has_ended g.S.Scribe.due c.args.scribe.now first.scribe.now out.scribe.now _
-    c.args.output.now first.output.now out.output.now _ c.args.form c.args.packets input c.conclude.result
+    c.args.output.now first.output.now out.output.now _ c.args.part.now.form c.args.part.now.packets input c.conclude.result
     (took_input g.S.Scribe.has_heard g.S.Scribe.due x (g.met.S.Scribe.none _) (rw was.scribe c.requires) was.none
-    g.S.Scribe.has_ended mid y c.args.form c.args.packets input heard.result heard.ensures.puts c.conclude.result c.conclude.ensures.concludes)
+    g.S.Scribe.has_ended mid y c.args.part.now.form c.args.part.now.packets input heard.result heard.ensures.puts c.conclude.result c.conclude.ensures.concludes)
     was.scribe was.output (search rules) (search rules)

@@ -11,10 +11,10 @@ use Rattle.cmd_send.proofs.over_wire.send_through.Goals as goal
 
 pub returns-clause-borrows : goal.returns-clause-borrows
 returns-clause-borrows g c =
-    sends_all (c.send_frames-sent.new.outlet.wire.ghost_name ≡ c.args.outlet.now.wire.ghost_name) (sending_view c.args.s.now) c.args.frames _ _ _ (λ datagrams w. w.0) (λ datagrams fault w. w.0) _ c.send_frames-sent.ensures
+    sends_all (c.send_frames-sent.new.outlet.wire.ghost_name ≡ c.args.outlet.now.wire.ghost_name) (sending_view c.args.options.now.sender) c.args.options.now.frames _ _ _ (λ datagrams w. w.0) (λ datagrams fault w. w.0) _ c.send_frames-sent.ensures
 
 pub returns-clause-sends : goal.returns-clause-sends
 returns-clause-sends g c =
     let wire = wire_of g.N.Wire.told g.N.Wire.faults c.args.outlet.now.wire.now c.send_frames-sent.new.outlet.wire.now in
-    subst (λ (a : Result Summary Ending). SendsFrames (sending_view c.args.s.now) c.args.frames a (input_of g.S.Source.left g.S.Source.faults c.args.input.now c.send_frames-sent.new.input) (SentAll wire) (SentPart wire)) (sym c.answer.ensures)
-    (sends_weaker (sending_view c.args.s.now) c.args.frames _ _ (SentAll wire) _ (SentPart wire) (λ datagrams w. w.1) (λ datagrams fault w. w.1) _ c.send_frames-sent.ensures)
+    subst (λ (a : Result Summary Ending). SendsFrames (sending_view c.args.options.now.sender) c.args.options.now.frames a (input_of g.S.Source.left g.S.Source.faults c.args.input.now c.send_frames-sent.new.input) (SentAll wire) (SentPart wire)) (sym c.answer.ensures)
+    (sends_weaker (sending_view c.args.options.now.sender) c.args.options.now.frames _ _ (SentAll wire) _ (SentPart wire) (λ datagrams w. w.1) (λ datagrams fault w. w.1) _ c.send_frames-sent.ensures)

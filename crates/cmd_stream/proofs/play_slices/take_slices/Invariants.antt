@@ -9,6 +9,6 @@ use Rattle.cmd_stream.proofs.play_slices.take_slices.Given as goal
 abbrev pub invariant-loop-index : goal.invariant-loop-index
 invariant-loop-index l =
     (first : List Coefficients)
-    × (slices_from (parameters_of l.fn.plan) 0 (slice_count (parameters_of l.fn.plan)) l.fn.bytes ≡ slices_behind first (slices_from (parameters_of l.fn.plan) l.index (slice_count (parameters_of l.fn.plan) - l.index) l.rest))
+    × (slices_from (parameters_of l.fn.head.plan) 0 (slice_count (parameters_of l.fn.head.plan)) l.fn.bytes ≡ slices_behind first (slices_from (parameters_of l.fn.head.plan) l.index (slice_count (parameters_of l.fn.head.plan) - l.index) l.rest))
     × (length first ≡ l.index)
-    × HasFirst (parameters_of l.fn.plan) first l.builder
+    × HasFirst (parameters_of l.fn.head.plan) first l.builder

@@ -1,4 +1,4 @@
-use Rattle.std.proofs.Common.{Ok, Err, refl, ap}
+use Rattle.std.proofs.Common.{Ok, refl, ap}
 use Rattle.cmd_receive.proofs.Arriving.{given_lost, one_given, wire_ended, wire_failed}
 use Rattle.cmd_receive.proofs.wire_inlet.WireInletInlet.next.Goals as goal
 

@@ -10,12 +10,12 @@ use Rattle.link_receiver.proofs.Asked.{asked_none, asked_twice}
 use Rattle.link_sender.specs.Packing.{datagram_with}
 use Rattle.link_sender.specs.State.{numbers_of}
 use Rattle.vc_types.specs.SenderSettings.{Sending}
-use Rattle.cmd_gen.proofs.checking.finish.Goals as goal
+use Rattle.cmd_gen.proofs.round_trip.RoundTrip.finish.Goals as goal
 
 pub returns-clause-different : goal.returns-clause-different
 returns-clause-different g c = λ generating window checked.
     let s = sent_by_default generating.frames in
-    let old = numbers_of c.args.sender.now in
+    let old = numbers_of c.args.self.now.sender in
     let end =
     c.in_ok-end.ensures.value.datagram_is
     ∙ ap (λ (t : Sending). datagram_with t old.number old.timestamp false (End (high_half old.number))) checked.sent.settings_are

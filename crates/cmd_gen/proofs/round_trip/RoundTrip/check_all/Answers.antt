@@ -4,7 +4,7 @@ use Rattle.cmd_gen.specs.Looping.{IsOneRefused}
 use Rattle.link_receiver.proofs.Asked.{asked_twice}
 use Rattle.link_report.specs.declared.ending.Ending.{Ending}
 use Rattle.vc_types.specs.SenderSettings.{generating_view}
-use Rattle.cmd_gen.proofs.checking.check_all.Goals as goal
+use Rattle.cmd_gen.proofs.round_trip.RoundTrip.check_all.Goals as goal
 
 pub returns-in_err-check_frames-clause-refused : goal.returns-in_err-check_frames-clause-refused
 returns-in_err-check_frames-clause-refused g c = λ window checked.

@@ -10,7 +10,7 @@ use Rattle.cmd_gen.specs.Generator.{frame_samples, generated_frames, state_behin
 use Rattle.link_model.specs.SendingPictures.{IsFrame}
 use Rattle.link_receiver.proofs.Asked.{asked_none, asked_twice}
 use Rattle.vc_types.specs.SenderSettings.{generating_view}
-use Rattle.cmd_gen.proofs.checking.check_frames.Goals as goal
+use Rattle.cmd_gen.proofs.round_trip.RoundTrip.check_frames.Goals as goal
 
 pub loop-frame-init : goal.loop-frame-init
 unfolding state_behind
@@ -20,7 +20,7 @@ loop-frame-init g c =
       state = c.from-state.ensures ∙ (let none : 0 ≡ 0 * n = omega arith in ap (state_behind c.args.g.now.seed) none);
       settings = refl;
       chooser = refl;
-      checked = λ window checked. none_checked (generating_view c.args.g.now) window c.args.sender.now c.args.checker.now c.requires.sent checked;
+      checked = λ window checked. none_checked (generating_view c.args.g.now) window c.args.self.now.sender c.args.self.now.checker c.requires.sent checked;
       told = asked_none _;
       below = c.requires.below;
     }
@@ -50,7 +50,7 @@ returns-in_err-check_frame-clause-value g c = λ window checked.
     let end = c.in_err-check_frame.field-0.0 in
     let refused = c.in_err-check_frame.ensures.value gen window (generated_frames shape c.args.g.now.seed k) small at in
     let same : c.from_residual.result ≡ Err end = search rules in
-    subst (λ (r : Result (Unit {0}) Ending). ChecksFrames gen window c.check_frame.new.sender c.check_frame.new.checker r) (sym same)
+    subst (λ (r : Result (Unit {0}) Ending). ChecksFrames gen window c.check_frame.new.self.sender c.check_frame.new.self.checker r) (sym same)
     (one_refused gen c.args.g.now.range_is_known k c.loop-frame.state (omega (arith, c.loop-frame-test.true)) c.loop-frame.invariant.state _ c.in-Ok.ensures.frame end at.sent.sendable refused)
 
 pub loop-frame-preserved : goal.loop-frame-preserved
@@ -75,4 +75,4 @@ returns-clause-value g c = λ window checked.
     let gen = generating_view c.args.g.now in
     let shape = shape_of_frames gen.frames in
     let all : c.loop-frame._frame ≡ c.args.g.now.frames = omega (arith, c.loop-frame-test.false, c.loop-frame.auto._frame-end) in
-    subst (λ (n : ℕ). HasChecked gen window (generated_frames shape c.args.g.now.seed n) c.loop-frame.sender c.loop-frame.checker) all (c.loop-frame.invariant.checked window checked)
+    subst (λ (n : ℕ). HasChecked gen window (generated_frames shape c.args.g.now.seed n) c.loop-frame.self.sender c.loop-frame.self.checker) all (c.loop-frame.invariant.checked window checked)
