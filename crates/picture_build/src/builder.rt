@@ -24,7 +24,7 @@ use vc_slice::{SliceCoeffs, Strip};
 use vc_types::{NoMemory, Plan, Plane, Unsound};
 
 // How many runs are many: so few that their strips are still in the cache when they come to their places, and
-// so many that starting two threads for them takes little of the time.
+// so many that starting three threads for them takes little of the time.
 const MANY: usize = 256;
 
 /// Why a slice wasn't put into a picture.

@@ -13,17 +13,9 @@ use std::alloc::Global;
 use vc_bits::BitTail;
 use vc_types::NoMemory;
 
-/// The signed codes of numbers, one behind the other, and ones up to a whole byte.
-pub fn sint_codes(alloc: Global, numbers: &[i32]) -> Result<Vec<u8>, NoMemory>
-    requires { length numbers.now < 2 ^ 60 }
-    ensures { IfOk result (λ bytes. bits_of bytes.items ≡ flat_map sint_bits numbers.now
-        ++ replicate (to_edge (length (flat_map sint_bits numbers.now))) true) }
-{
-    sint_codes_in(Vec::new(alloc), numbers)
-}
-
-/// The same, in the memory of bytes that are done with.
-pub fn sint_codes_in(used: Vec<u8>, numbers: &[i32]) -> Result<Vec<u8>, NoMemory>
+/// The signed codes of numbers, one after another, and ones up to a whole byte, in the memory of bytes that
+/// are done with.
+pub fn sint_codes(used: Vec<u8>, numbers: &[i32]) -> Result<Vec<u8>, NoMemory>
     requires { length numbers.now < 2 ^ 60 }
     ensures { IfOk result (λ bytes. bits_of bytes.items ≡ flat_map sint_bits numbers.now
         ++ replicate (to_edge (length (flat_map sint_bits numbers.now))) true) }

@@ -1,5 +1,6 @@
 ghost use Rattle.std.specs.Prelude.{◌≡◌};
 ghost use Rattle.vc_lowdelay.specs.declared.refusal.LowRefusal.TheVariants as refusals;
+ghost use Rattle.vc_lowdelay.specs.declared.refusal.NarrowFault.TheVariants as faults;
 
 use std::alloc::{AllocError, AllocFailed};
 use vc_slice::TooWide;
@@ -60,24 +61,32 @@ impl From<LargeValue> for LowRefusal {
 }
 
 impl From<TooWide> for NarrowFault {
+    ghost from_gives = { λ _ e. e ≡ faults.TooWide };
+
     fn from(_: TooWide) -> Self {
         NarrowFault::TooWide
     }
 }
 
 impl From<LargeValue> for NarrowFault {
+    ghost from_gives = { λ _ e. e ≡ faults.TooWide };
+
     fn from(_: LargeValue) -> Self {
         NarrowFault::TooWide
     }
 }
 
 impl From<AllocError> for NarrowFault {
+    ghost from_gives = { λ _ e. e ≡ faults.NoMemory };
+
     fn from(_: AllocError) -> Self {
         NarrowFault::NoMemory
     }
 }
 
 impl From<NoMemory> for NarrowFault {
+    ghost from_gives = { λ _ e. e ≡ faults.NoMemory };
+
     fn from(_: NoMemory) -> Self {
         NarrowFault::NoMemory
     }

@@ -103,30 +103,15 @@ pub fn encode(
     ensures fits { OnOk result (is_too_long plan.now index q coeffs.now ≡ false) }
     ensures too_long { IfErr result (λ e. IsRefusal plan.now index q coeffs.now e) }
 {
-    encode_parts(alloc, &SliceParts::new(plan, index), coeffs, q)
+    encode_in(
+        &mut EncodeRoom::new(alloc),
+        &SliceParts::new(plan, index),
+        coeffs,
+        q,
+    )
 }
 
-/// The same of a slice whose parts are known.
-pub fn encode_parts(
-    alloc: Global,
-    parts: &SliceParts,
-    coeffs: &SliceCoeffs,
-    q: u8,
-) -> Result<Vec<u8>, EncodeRefusal>
-    requires coefficients { AreCoefficients parts.now coeffs.now }
-    requires index { q ≤ 127 }
-    ensures value { IfOk result
-        (λ bytes. bits_of bytes.items ≡ encoded_slice parts.now.plan parts.now.slice q coeffs.now) }
-    ensures len { IfOk result
-        (λ bytes. length bytes.items ≡ encoded_length parts.now.plan parts.now.slice q coeffs.now) }
-    ensures fits { OnOk result (is_too_long parts.now.plan parts.now.slice q coeffs.now ≡ false) }
-    ensures too_long { IfErr result
-        (λ e. IsRefusal parts.now.plan parts.now.slice q coeffs.now e) }
-{
-    encode_in(&mut EncodeRoom::new(alloc), parts, coeffs, q)
-}
-
-/// The same by means of memory that serves one slice after another.
+/// The same of a slice whose parts are known, by means of memory that serves one slice after another.
 pub fn encode_in(
     room: &mut EncodeRoom,
     parts: &SliceParts,

@@ -38,9 +38,7 @@ pub use coeffs::{CoefficientList, SliceCoeffs};
 pub use decoding::decode;
 pub use done::SliceDone;
 pub use encode_room::EncodeRoom;
-pub use encoding::{
-    EncodeRefusal, encode, encode_in, encode_parts, encoded_len, encoded_lens, len_of_parts,
-};
+pub use encoding::{EncodeRefusal, encode, encode_in, encoded_len, encoded_lens, len_of_parts};
 pub use job::SliceJob;
 pub use laws::slices_decode_apart;
 pub use narrow::{TooWide, read_numbers};

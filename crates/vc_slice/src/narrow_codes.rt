@@ -10,7 +10,7 @@ ghost use Rattle.vc_slice.specs.Bands.{block_codes, coefficient_count, quantiser
 use crate::bands::SliceBands;
 use crate::narrow::greatest;
 use vc_geometry::bands as band_count;
-use vc_golomb::sint_codes_in;
+use vc_golomb::sint_codes;
 use vc_quant::Quantiser;
 use vc_types::{Component, NoMemory};
 
@@ -45,7 +45,7 @@ fn codes_in_place(
 {
     quantise(bands, c, numbers);
     let count = used_count(numbers);
-    sint_codes_in(used, &numbers[..count])
+    sint_codes(used, &numbers[..count])
 }
 
 // Puts in the place of a component's coefficients the numbers that they are quantised to.

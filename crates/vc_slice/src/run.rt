@@ -60,7 +60,7 @@ impl RunJob {
             index,
             bytes,
         } = job;
-        let mut slices = Vec::with_capacity(alloc, 8)?;
+        let mut slices = Vec::with_capacity(alloc, 16)?;
         slices.push(bytes)?;
         Ok(RunJob {
             plan,

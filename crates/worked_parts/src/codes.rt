@@ -57,7 +57,7 @@ pub(crate) fn signed_at_once(given: &str, said: &mut Said) -> Result<(), Bad> {
     if numbers.len() >= 1 << 60 {
         return Err(Bad::NoRow);
     }
-    said.bytes(sint_codes(said.alloc(), numbers.as_slice())?.as_slice());
+    said.bytes(sint_codes(Vec::new(said.alloc()), numbers.as_slice())?.as_slice());
     Ok(())
 }
 

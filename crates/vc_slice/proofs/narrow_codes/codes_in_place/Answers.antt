@@ -4,8 +4,8 @@ use Rattle.vc_types.specs.Encoding.{block_bits}
 use Rattle.vc_slice.proofs.WrittenBlocks.{all_quantised, few_coefficients}
 use Rattle.vc_slice.proofs.narrow_codes.codes_in_place.Goals as goal
 
-pub sint_codes_in-requires : goal.sint_codes_in-requires
-sint_codes_in-requires c =
+pub sint_codes-requires : goal.sint_codes-requires
+sint_codes-requires c =
     let long : length c.quantise.new.numbers ≡ length c.args.numbers.now = search rules in
     omega (arith, few_coefficients c.args.bands.now.parts.now c.args.c, long, c.requires, length-take c.used_count-count.result c.quantise.new.numbers)
 

@@ -2,7 +2,7 @@ use Rattle.std.proofs.Common.{◌≡◌, ◌+◌, append-nil, arith, rules, get_
 use Rattle.std.specs.Int.{w32}
 use Rattle.vc_types.proofs.Bits.{bits_of-nil}
 use Rattle.vc_golomb.proofs.AppendedCodes.{quad_added, pair_added, code_more}
-use Rattle.vc_golomb.proofs.codes.sint_codes_in.Goals as goal
+use Rattle.vc_golomb.proofs.codes.sint_codes.Goals as goal
 
 pub numbers-init : goal.numbers-init
 numbers-init c = grind (arith, append-nil, bits_of-nil)
