@@ -2,11 +2,12 @@
 use Rattle.std.proofs.Common.{◌≡◌, ℕ, zero, suc, ◌+◌, ◌-◌, ◌*◌, ◌/◌, ◌^◌, ◌<◌, ◌≤◌, Bool, true, eqb, leb, get_or, refl, sym, ap, subst, ◌∙◌, arith, inl, inr}
 use Rattle.std.specs.Prelude.{◌&&◌, ◌↔◌}
 use Rattle.std.proofs.lemmas.Bool.{and_parts, cases_lt, eqb-true, leb-true}
+use Rattle.std.proofs.lemmas.Nat.{pow-add, pow_pos}
 use Rattle.std.proofs.Math.Nat.{mul-le-mul_right, mul-le-mul_left, div-mul-le_self, lt-div-mul-add, div-eq_of_lt-le, le_of_mul-le-mul_right, lt_of_mul-lt-mul_right, pow-le-pow_right, pow-suc, le-div_iff_mul-le}
 use Rattle.vc_types.specs.Quantisation.{quant_factor, quant_offset}
 use Rattle.vc_types.proofs.Tables.{holds_below, holds_at}
 use Rattle.vc_quant.specs.Narrow.{IsNarrow}
-use Rattle.vc_quant.specs.Reciprocal.{IsReciprocal}
+use Rattle.vc_quant.specs.Reciprocal.{IsReciprocal, IsNarrowReciprocal}
 use Rattle.vc_quant.specs.declared.factors.TheConstants.{FACTORS}
 use Rattle.vc_quant.specs.declared.last.TheConstants.{LASTS, RECIPROCALS}
 use Rattle.vc_quant.specs.declared.reciprocal.TheConstants.{FACTOR_RECIPROCALS}
@@ -39,6 +40,71 @@ module _ (base size divisor reciprocal product : ℕ) (some : 0 < divisor) (smal
 
   pub no_more : size - product * divisor < divisor → product ≡ size / divisor
   no_more h = sym (div-eq_of_lt-le {k = product} divisor not_over (omega (arith, h, not_over)))
+
+-- ---- a quotient by one product and a shift
+
+module _ (divisor times base magnitude : ℕ) (some : 0 < divisor) (small : magnitude < 2 ^ 14)
+    (low : 4 * base ≤ times * divisor) (high : times * divisor ≤ 4 * base + divisor) where
+  -- where the base has room for the magnitude and the divisor
+  narrow_quotient : divisor * 2 ^ 14 ≤ base → magnitude * times / base ≡ 4 * magnitude / divisor
+  narrow_quotient room =
+      let quotient = 4 * magnitude / divisor in
+      let below : quotient * divisor ≤ 4 * magnitude = div-mul-le_self (4 * magnitude) divisor in
+      let after : 4 * magnitude < quotient * divisor + divisor = lt-div-mul-add {a = 4 * magnitude} some in
+      let above : 4 * magnitude + 1 ≤ quotient * divisor + divisor = omega (arith, after) in
+      let below_base = mul-le-mul_right base below in
+      let above_base = mul-le-mul_right base above in
+      let low_times = mul-le-mul_left magnitude low in
+      let high_times = mul-le-mul_left magnitude high in
+      let rest : (magnitude + 1) * divisor ≤ 2 ^ 14 * divisor = mul-le-mul_right divisor (omega (arith, small)) in
+      let whole : quotient * base * divisor ≤ magnitude * times * divisor = omega (arith, below_base, low_times) in
+      let next : magnitude * times * divisor < (quotient + 1) * base * divisor = omega (arith, above_base, high_times, rest, room, some) in
+      div-eq_of_lt-le {k = quotient} base (le_of_mul-le-mul_right whole some) (lt_of_mul-lt-mul_right divisor next)
+
+  -- where the divisor is larger than each magnitude, in quarters
+  none_of_large : base ≡ 2 ^ 30 → 2 ^ 16 ≤ divisor → magnitude * times / base ≡ 4 * magnitude / divisor
+  none_of_large is large =
+      let most : times * divisor ≤ (2 ^ 16 + 1) * divisor = omega (arith, high, is, large) in
+      let product : magnitude * times ≤ magnitude * (2 ^ 16 + 1) = mul-le-mul_left magnitude (le_of_mul-le-mul_right most some) in
+      div-eq_of_lt-le {k = 0} base (omega arith) (omega (arith, product, small, is)) ∙ sym (div-eq_of_lt-le {k = 0} divisor (omega arith) (omega (arith, small, large)))
+
+-- of a reciprocal's digits so many that a product has 32 bits
+module _ (divisor reciprocal log : ℕ) (few : log ≤ 15) (reached : 2 ^ log ≤ divisor) (is : IsReciprocal divisor reciprocal) where
+  some : 0 < divisor
+  some = omega (arith, pow_pos log, reached)
+
+  powers : 2 ^ (15 - log) * 2 ^ (15 + log) ≡ 2 ^ 30
+  powers = let sum : 15 - log + (15 + log) ≡ 30 = omega arith in sym (pow-add 2 (15 - log) (15 + log)) ∙ ap (λ (n : ℕ). 2 ^ n) sum
+
+  low : reciprocal / 2 ^ (15 - log) * divisor ≤ 4 * 2 ^ (15 + log)
+  low =
+      let cut : reciprocal / 2 ^ (15 - log) * 2 ^ (15 - log) ≤ reciprocal = div-mul-le_self reciprocal (2 ^ (15 - log)) in
+      let times = mul-le-mul_right divisor cut in
+      le_of_mul-le-mul_right {k = 2 ^ (15 - log)} (omega (arith, times, is.0, powers)) (pow_pos (15 - log))
+
+  high : 4 * 2 ^ (15 + log) ≤ (reciprocal / 2 ^ (15 - log) + 1) * divisor
+  high =
+      let after : reciprocal < reciprocal / 2 ^ (15 - log) * 2 ^ (15 - log) + 2 ^ (15 - log) = lt-div-mul-add {a = reciprocal} (pow_pos (15 - log)) in
+      let next : reciprocal + 1 ≤ (reciprocal / 2 ^ (15 - log) + 1) * 2 ^ (15 - log) = omega (arith, after) in
+      let times = mul-le-mul_right divisor next in
+      le_of_mul-le-mul_right {k = 2 ^ (15 - log)} (omega (arith, times, is.1, powers)) (pow_pos (15 - log))
+
+  pub digits_fit : reciprocal / 2 ^ (15 - log) ≤ 2 ^ 17
+  digits_fit =
+      let times = mul-le-mul_left (reciprocal / 2 ^ (15 - log)) reached in
+      le_of_mul-le-mul_right {k = 2 ^ log} (omega (arith, times, low, pow-add 2 15 log)) (pow_pos log)
+
+  pub digits_are_narrow : (log < 15 → divisor < 2 * 2 ^ log) → IsNarrowReciprocal divisor (reciprocal / 2 ^ (15 - log) + 1) (15 + log)
+  digits_are_narrow next magnitude small =
+      let times = reciprocal / 2 ^ (15 - log) + 1 in
+      let base = 2 ^ (15 + log) in
+      let not_over_one : times * divisor ≤ 4 * base + divisor = omega (arith, low) in
+      elim (cases_lt divisor (2 * 2 ^ log)) [
+        | inl lt ↦ narrow_quotient divisor times base magnitude some small high not_over_one (omega (arith, lt, pow-add 2 15 log))
+        | inr le ↦
+            let all : log ≡ 15 = elim (cases_lt log 15) [ inl lt ↦ absurd (omega (arith, next lt, le)) | inr whole ↦ omega arith ] in
+            none_of_large divisor times base magnitude some small high not_over_one (ap (λ (n : ℕ). 2 ^ (15 + n)) all) (rw all at le)
+      ]
 
 -- a magnitude isn't quantised to a larger one
 pub not_larger : (magnitude factor : ℕ) → 4 ≤ factor → 4 * magnitude / factor ≤ magnitude

@@ -8,7 +8,7 @@ ghost use Rattle.vc_quant.specs.Reciprocal.{IsReciprocal};
 
 use crate::factors::FACTORS;
 use crate::narrow::NarrowQuantiser;
-use crate::quantising::{NARROW, narrow_reciprocal, quantise};
+use crate::quantising::{NARROW, NarrowReciprocal};
 use crate::quotient::quotient;
 use crate::reciprocal::factor_reciprocal;
 
@@ -138,13 +138,8 @@ impl Quantiser {
         ensures { (k : ℕ) → k < length coefficients.old
             → line_of coefficients.new k ≡ quantised (line_of coefficients.old k) self.now.index }
     {
-        if greatest < NARROW && self.factor < 1 << 32 {
-            let factor = self.factor as u32;
-            quantise(
-                coefficients,
-                factor,
-                narrow_reciprocal(factor, self.reciprocal),
-            );
+        if greatest < NARROW {
+            NarrowReciprocal::new(self.index).quantise(coefficients);
         } else {
             self.quant_each(coefficients);
         }

@@ -1,59 +1,66 @@
-ghost use Rattle.std.specs.Prelude.{◌≡◌, ◌*◌, ◌/◌, ◌^◌, ◌<◌, ◌≤◌, ℕ, All, length, unsigned_abs};
+ghost use Rattle.std.specs.Prelude.{◌≡◌, ◌+◌, ◌*◌, ◌/◌, ◌^◌, ◌<◌, ◌≤◌, ℕ, All, length, unsigned_abs};
 ghost use Rattle.vc_types.specs.Lifting.{line_of};
-ghost use Rattle.vc_types.specs.Quantisation.{with_sign_of};
-ghost use Rattle.vc_quant.specs.Reciprocal.{IsReciprocal, IsNarrowReciprocal};
+ghost use Rattle.vc_types.specs.Quantisation.{quant_factor, quantised};
+ghost use Rattle.vc_quant.specs.Reciprocal.{IsNarrowReciprocal};
+
+use crate::quantiser::factor;
+use crate::reciprocal::factor_reciprocal;
 
 /// Magnitudes below this are quantised in 32 bits.
 pub(crate) const NARROW: u32 = 1 << 14;
 
-/// What stands for a division of magnitudes below NARROW.
-pub(crate) fn narrow_reciprocal(factor: u32, reciprocal: u64) -> u32
-    requires factor { 4 ≤ factor }
-    requires reciprocal { IsReciprocal factor reciprocal }
-    ensures { IsNarrowReciprocal factor result }
-{
-    (reciprocal >> 14) as u32
+/// An index, with a product and a shift that stand for the division of magnitudes below NARROW by its
+/// factor.
+#[derive(Clone, Copy)]
+pub(crate) struct NarrowReciprocal {
+    pub(crate) index: u8,
+    times: u32,
+    shift: u32,
+    ghost times_fit: { times ≤ 2 ^ 17 + 1 },
+    ghost shift_fits: { shift ≤ 30 },
+    ghost is_exact: { IsNarrowReciprocal (quant_factor index) times shift },
 }
 
-/// Puts in the place of coefficients of small magnitudes the numbers that they are quantised to.
-pub(crate) fn quantise(coefficients: &mut [i32], factor: u32, reciprocal: u32)
-    requires small { All (λ z. unsigned_abs z < 2 ^ 14) coefficients.old }
-    requires factor { 4 ≤ factor }
-    requires reciprocal { IsNarrowReciprocal factor reciprocal }
-    ensures { (k : ℕ) → k < length coefficients.old → line_of coefficients.new k
-        ≡ with_sign_of (line_of coefficients.old k)
-        (4 * unsigned_abs (line_of coefficients.old k) / factor) }
-{
-    for coefficient in coefficients.iter_mut() {
-        *coefficient = number(*coefficient, factor, reciprocal);
+impl NarrowReciprocal {
+    pub(crate) fn new(index: u8) -> NarrowReciprocal
+        requires { index ≤ 127 }
+        ensures { result.index ≡ index }
+    {
+        // The reciprocal, rounded up to its first 17 digits: quotients are neither too small nor too large.
+        let log = factor(index).ilog2().min(15);
+        NarrowReciprocal {
+            index,
+            times: (factor_reciprocal(index) >> (15 - log)) as u32 + 1,
+            shift: 15 + log,
+        }
     }
-}
 
-#[inline(always)]
-fn number(coefficient: i32, factor: u32, reciprocal: u32) -> i32
-    requires small { unsigned_abs coefficient < 2 ^ 14 }
-    requires factor { 4 ≤ factor }
-    requires reciprocal { IsNarrowReciprocal factor reciprocal }
-    ensures { result ≡ with_sign_of coefficient (4 * unsigned_abs coefficient / factor) }
-{
-    let size = narrow_quotient(coefficient.unsigned_abs(), factor, reciprocal) as i32;
-    if coefficient < 0 { -size } else { size }
-}
+    /// Puts in the place of coefficients of small magnitudes the numbers that they are quantised to.
+    pub(crate) fn quantise(&self, coefficients: &mut [i32])
+        requires { All (λ z. unsigned_abs z < 2 ^ 14) coefficients.old }
+        ensures { (k : ℕ) → k < length coefficients.old
+            → line_of coefficients.new k ≡ quantised (line_of coefficients.old k) self.now.index }
+    {
+        for coefficient in coefficients.iter_mut() {
+            *coefficient = self.number(*coefficient);
+        }
+    }
 
-// The product is one too small at most.
-#[inline(always)]
-fn narrow_quotient(magnitude: u32, factor: u32, reciprocal: u32) -> u32
-    requires small { magnitude < 2 ^ 14 }
-    requires factor { 4 ≤ factor }
-    requires reciprocal { IsNarrowReciprocal factor reciprocal }
-    ensures value { result ≡ 4 * magnitude / factor }
-    ensures range { result ≤ magnitude }
-{
-    let quotient = (magnitude * reciprocal) >> 16;
-    let rest = 4 * magnitude - quotient * factor;
-    if rest >= factor {
-        quotient + 1
-    } else {
-        quotient
+    #[inline(always)]
+    fn number(&self, coefficient: i32) -> i32
+        requires { unsigned_abs coefficient < 2 ^ 14 }
+        ensures { result ≡ quantised coefficient self.now.index }
+    {
+        let size = self.quotient(coefficient.unsigned_abs()) as i32;
+        if coefficient < 0 { -size } else { size }
+    }
+
+    #[inline(always)]
+    fn quotient(&self, magnitude: u32) -> u32
+        requires { magnitude < 2 ^ 14 }
+        ensures value { result ≡ 4 * magnitude / quant_factor self.now.index }
+        ensures range { result < 2 ^ 31 }
+    {
+        (magnitude * self.times) >> self.shift
     }
 }
