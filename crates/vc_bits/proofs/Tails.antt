@@ -33,15 +33,13 @@ behind_word count word rest bits tail is =
 pub taken : (count word last number next tail_bits tail : ℕ) (rest : List ℕ) → count < 12 → rest ≡ []
     → last ≡ tail_bits → tail_bits < 8 → number ≡ tail
     → word_bits (count + last) next
-    ≡ word_bits count (word % (1 * 2 ^ count % 2 ^ 64)) ++ word_bits last (number % (1 * 2 ^ last % 2 ^ 64))
+    ≡ word_bits count word ++ word_bits last (number % (1 * 2 ^ last % 2 ^ 64))
     → word_bits (count + last) next ++ (bits_of rest ++ word_bits 0 tail)
     ≡ word_bits count word ++ (bits_of rest ++ word_bits tail_bits tail)
 unfolding word_bits
 taken count word last number next tail_bits tail rest few none same_bits small same is =
-    let small_word = word % (1 * 2 ^ count % 2 ^ 64) in
     rw (none, bits_of-nil, ← same_bits, ← same) (append-nil (word_bits (count + last) next) ∙ is
-    ∙ ap (λ (bits : List Bool). word_bits count small_word ++ bits) (last_bits last number (omega arith))
-    ∙ ap (λ (bits : List Bool). bits ++ word_bits last number) (last_bits count word (omega arith)))
+    ∙ ap (λ (bits : List Bool). word_bits count word ++ bits) (last_bits last number (omega arith)))
 
 -- some bits of the word are skipped
 pub within_word : (count word n left next : ℕ) (bytes rest : List ℕ) (tail : List Bool) → n ≤ count

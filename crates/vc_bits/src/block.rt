@@ -228,7 +228,7 @@ fn ended(word: u64, count: u32, rest: &[u8], tail: u8, tail_bits: u8) -> (u64, u
     }
     let last = u32::from(tail_bits);
     let number = u64::from(tail) % (1 << last);
-    let word = joined(word % (1 << count), count, number, last);
+    let word = joined(word, count, number, last);
     (word, count + last, 0)
 }
 

@@ -1,5 +1,5 @@
 ghost use Rattle.std.specs.Prelude.{◌≡◌, ◌+◌, ◌-◌, ◌*◌, ◌/◌, ◌%◌, ◌<◌, ◌≤◌, ◌^◌, ◌++◌, true, replicate, OnOk};
-ghost use Rattle.std.specs.Prelude.{vec_len, vec_capacity};
+ghost use Rattle.std.specs.Prelude.{take, vec_len, vec_capacity};
 ghost use Rattle.vc_types.specs.Bits.{bits_of};
 ghost use Rattle.vc_bits.specs.Bits.{word_bits};
 
@@ -9,11 +9,8 @@ use vc_types::NoMemory;
 #[inline(always)]
 pub(crate) fn joined(word: u64, have: u32, number: u64, count: u32) -> u64
     requires count { have + count < 64 }
-    requires word { word < 2 ^ have }
     requires number { number < 2 ^ count }
-    ensures value { word_bits (have + count) result
-        ≡ word_bits have word ++ word_bits count number }
-    ensures range { result < 2 ^ (have + count) }
+    ensures { word_bits (have + count) result ≡ word_bits have word ++ word_bits count number }
 {
     (word << count) + number
 }
@@ -68,6 +65,39 @@ pub(crate) fn push_four(bytes: &mut Vec<u8>, word: u64, count: u32)
     push_first(bytes, word, count - 8);
     push_first(bytes, word, count - 16);
     push_first(bytes, word, count - 24);
+}
+
+// Moves a word's bits behind the bytes, as many as make whole ones. Eight bytes are put there at once, and
+// those that they don't fill are cut off again: so there is no test of how many they are.
+#[inline(always)]
+pub(crate) fn push_whole(bytes: &mut Vec<u8>, word: u64, count: u32)
+    requires count { count < 64 }
+    requires room { vec_len bytes.old + 8 ≤ vec_capacity bytes.old }
+    ensures bits { bits_of bytes.new.items ++ word_bits (count % 8) word
+        ≡ bits_of bytes.old.items ++ word_bits count word }
+    ensures len { vec_len bytes.new ≡ vec_len bytes.old + count / 8 }
+    ensures capacity { vec_capacity bytes.new ≡ vec_capacity bytes.old }
+{
+    let first = word << ((64 - count) % 64);
+    push_four(bytes, first, 64);
+    push_four(bytes, first, 32);
+    cut_last(bytes, 8 - (count / 8) as usize);
+}
+
+// Cuts off so many bytes. One by one is a single subtraction once it is compiled; `truncate` would compare
+// lengths.
+#[inline(always)]
+fn cut_last(bytes: &mut Vec<u8>, count: usize)
+    requires { count ≤ vec_len bytes.old }
+    ensures items { bytes.new.items ≡ take (vec_len bytes.old - count) bytes.old.items }
+    ensures len { vec_len bytes.new ≡ vec_len bytes.old - count }
+    ensures capacity { vec_capacity bytes.new ≡ vec_capacity bytes.old }
+{
+    let mut left = count;
+    'last: while left > 0 {
+        bytes.take_last();
+        left -= 1;
+    }
 }
 
 // Moves all of a word's bits behind the bytes: whole bytes, and up to four.

@@ -12,14 +12,14 @@ use vc_types::NoMemory;
 #[derive(Drop)]
 pub struct BitWriter {
     bytes: Vec<u8>,
-    // The last bits are those of a word, and this many. Where there are some, the vector has room for their
-    // bytes.
+    // The last bits are those of a word, and this many; the word's others are of no account. Where there are
+    // some, the vector has room for their bytes.
     word: u64,
     count: u32,
 }
 
 impl Model for BitWriter {
-    ghost use Rattle.std.specs.Prelude.{◌<◌, ◌≤◌, ◌+◌, ◌^◌, ◌++◌, List, Bool, vec_len, vec_capacity};
+    ghost use Rattle.std.specs.Prelude.{◌<◌, ◌≤◌, ◌+◌, ◌++◌, List, Bool, vec_len, vec_capacity};
     ghost use Rattle.vc_types.specs.Bits.{bits_of};
     ghost use Rattle.vc_bits.specs.Bits.{word_bits};
 
@@ -27,7 +27,7 @@ impl Model for BitWriter {
 
     ghost view = { λ w. bits_of w.bytes.items ++ word_bits w.count w.word };
 
-    ghost invariant = { λ w. (w.count < 32) × (w.word < 2 ^ w.count)
+    ghost invariant = { λ w. (w.count < 32)
         × (0 < w.count → vec_len w.bytes + 4 ≤ vec_capacity w.bytes) };
 }
 
@@ -76,13 +76,12 @@ impl BitWriter {
         let filled = self.count + count;
         make_room(&mut self.bytes, self.count == 0 || filled >= 32)?;
         let word = joined(self.word, self.count, number, count);
+        self.word = word;
         if filled >= 32 {
             push_four(&mut self.bytes, word, filled);
             self.count = filled - 32;
-            self.word = word % (1 << self.count);
         } else {
             self.count = filled;
-            self.word = word;
         }
         Ok(())
     }

@@ -4,13 +4,24 @@ use Rattle.vc_types.specs.Bits.{bits_of}
 use Rattle.vc_types.specs.Codes.{sint_bits}
 use Rattle.vc_golomb.proofs.codes.sint_codes.Given as goal
 
-abbrev pub invariant-numbers : goal.invariant-numbers
-invariant-numbers l = record {
+abbrev pub invariant-quads : goal.invariant-quads
+invariant-quads l = record {
   within : l.at ≤ length l.numbers;
   bits : bits_of l.bytes.items ++ l.tail ≡ flat_map sint_bits (take l.at l.numbers);
   len : 8 * vec_len l.bytes + length l.tail ≤ 64 * l.at;
-  capacity : 8 * length l.numbers + 4 ≤ vec_capacity l.bytes;
+  capacity : 8 * length l.numbers + 8 ≤ vec_capacity l.bytes;
 }
 
-abbrev pub decreases-numbers : goal.decreases-numbers
-decreases-numbers l = length l.numbers - l.at
+abbrev pub decreases-quads : goal.decreases-quads
+decreases-quads l = length l.numbers - l.at
+
+abbrev pub invariant-last : goal.invariant-last
+invariant-last l = record {
+  within : l.at ≤ length l.numbers;
+  bits : bits_of l.bytes.items ++ l.tail ≡ flat_map sint_bits (take l.at l.numbers);
+  len : 8 * vec_len l.bytes + length l.tail ≤ 64 * l.at;
+  capacity : 8 * length l.numbers + 8 ≤ vec_capacity l.bytes;
+}
+
+abbrev pub decreases-last : goal.decreases-last
+decreases-last l = length l.numbers - l.at
