@@ -90,7 +90,8 @@ fn check_planes_joined<H: Threads + Sync>(
     check_planes(depths, y, c1, c2)
 }
 
-// The greatest luma sample, of two parts, and the greatest colour sample.
+// The greatest luma sample, of two parts, and the greatest colour sample. This thread starts the three
+// others: one that is new may have to wait for a processor before it can start another.
 fn greatest_by_four<H: Threads + Sync>(
     rt: &H,
     front: &[u16],
@@ -103,19 +104,29 @@ fn greatest_by_four<H: Threads + Sync>(
     ensures c1 { All (λ s. s ≤ result.1) c1.now }
     ensures c2 { All (λ s. s ≤ result.1) c2.now }
 {
-    join(
+    let (second, (first, luma)) = join(
         rt,
-        || greatest_of(rt, front, back),
-        || greatest_of(rt, c1, c2),
-    )
+        || greatest(c2),
+        || greatest_beside(rt, c1, front, back),
+    );
+    (luma, first.max(second))
 }
 
-// The greatest of some samples and of others, by join.
-fn greatest_of<H: Threads>(rt: &H, some: &[u16], others: &[u16]) -> u16
-    ensures some { All (λ s. s ≤ result) some.now }
-    ensures others { All (λ s. s ≤ result) others.now }
+// The greatest of some samples, and that of two other parts, by join.
+fn greatest_beside<H: Threads>(rt: &H, some: &[u16], front: &[u16], back: &[u16]) -> (u16, u16)
+    ensures some { All (λ s. s ≤ result.0) some.now }
+    ensures front { All (λ s. s ≤ result.1) front.now }
+    ensures back { All (λ s. s ≤ result.1) back.now }
 {
-    let (first, second) = join(rt, || greatest(some), || greatest(others));
+    join(rt, || greatest(some), || greatest_of(rt, front, back))
+}
+
+// The greatest of two parts, by join.
+fn greatest_of<H: Threads>(rt: &H, front: &[u16], back: &[u16]) -> u16
+    ensures front { All (λ s. s ≤ result) front.now }
+    ensures back { All (λ s. s ≤ result) back.now }
+{
+    let (first, second) = join(rt, || greatest(front), || greatest(back));
     first.max(second)
 }
 

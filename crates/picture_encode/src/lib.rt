@@ -12,6 +12,7 @@ mod plan;
 mod refusal;
 mod rows;
 mod run;
+mod side_by_side;
 mod slices;
 mod transform;
 

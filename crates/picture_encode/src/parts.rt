@@ -16,9 +16,10 @@ use crate::chooser::Chooser;
 use crate::grids::PictureGrids;
 use crate::refusal::SliceRefusal;
 use crate::run::EncodedRun;
+use crate::side_by_side::map_side_by_side;
 use crate::slices::{SentSlice, SliceRoom, encode_slice};
 use std::alloc::Global;
-use std::thread::{Threads, map_indices};
+use std::thread::Threads;
 use vc_slice::SliceParts;
 use vc_types::{NoMemory, Plan, SendSettings, SliceNeed};
 
@@ -149,7 +150,7 @@ fn encode_each<H: Threads + Sync, F: Fn(&SliceNeed) -> u8 + Sync>(
             chooser.entry.now.wants_lens (sending_view s.entry.now)
             (parameters_of plan.entry.now) grids.entry.now parts number result }
     { encode_part(alloc, s, plan, chooser, grids, number, parts) };
-    let answers = map_indices(rt, alloc, parts, &encode)?;
+    let answers = map_side_by_side(rt, alloc, parts, &encode)?;
     Ok(answers)
 }
 

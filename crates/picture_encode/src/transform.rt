@@ -2,7 +2,7 @@ ghost use Rattle.std.specs.Prelude.{◌≡◌, ◌^◌, ◌<◌, All, IfOk, leng
 ghost use Rattle.link_model.specs.SendingPictures.{plane_in};
 ghost use Rattle.picture_encode.specs.Grids.{AreNarrowCells, HasCoefficients, HaveCoefficients};
 ghost use Rattle.picture_encode.specs.Shapes.{CanBeTransformed, FitsNarrow};
-ghost use Rattle.vc_types.specs.declared.video.Component.TheVariants.{C1, C2};
+ghost use Rattle.vc_types.specs.declared.video.Component.TheVariants.{Y, C1, C2};
 ghost use Rattle.vc_types.specs.Planes.{planes_in};
 ghost use Rattle.vc_types.specs.TransformParameters.{parameters_of};
 
@@ -35,8 +35,9 @@ pub(crate) fn transform_picture(
     })
 }
 
-/// The same, luma beside the colours, by join, and its highest level in two halves side by side.
-pub(crate) fn transform_picture_joined<H: Threads + Sync>(
+/// The same, the components side by side, by join, and luma's highest level in two halves. This thread starts
+/// the three others: one that is new may have to wait for a processor before it can start another.
+pub(crate) fn transform_picture_joined<H: Threads>(
     rt: &H,
     alloc: Global,
     plan: &Plan,
@@ -48,10 +49,10 @@ pub(crate) fn transform_picture_joined<H: Threads + Sync>(
         (λ g. HaveCoefficients (parameters_of plan.now) (planes_in planes.now) g) }
 {
     let PictureGrids { y, c1, c2 } = used;
-    let (y, (c1, c2)) = join(
+    let (c1, (c2, y)) = join(
         rt,
-        || component_joined(rt, alloc, plan, planes, Component::Y, y),
-        || colours(rt, alloc, plan, planes, c1, c2),
+        || component(alloc, plan, planes, Component::C1, c1),
+        || luma_beside_second(rt, alloc, plan, planes, c2, y),
     );
     Ok(PictureGrids {
         y: y?,
@@ -62,25 +63,25 @@ pub(crate) fn transform_picture_joined<H: Threads + Sync>(
 
 type Answer = Result<ComponentGrid, NoMemory>;
 
-// The coefficients of both colour components, side by side.
-fn colours<H: Threads>(
+// The coefficients of C2 and of luma, side by side.
+fn luma_beside_second<H: Threads>(
     rt: &H,
     alloc: Global,
     plan: &Plan,
     planes: &[Plane; 3],
-    c1: ComponentGrid,
     c2: ComponentGrid,
+    y: ComponentGrid,
 ) -> (Answer, Answer)
     requires { CanBeTransformed (parameters_of plan.now) (planes_in planes.now) }
-    ensures c1 { IfOk result.0
-        (λ g. HasCoefficients (parameters_of plan.now) C1 (planes_in planes.now) g) }
-    ensures c2 { IfOk result.1
+    ensures c2 { IfOk result.0
         (λ g. HasCoefficients (parameters_of plan.now) C2 (planes_in planes.now) g) }
+    ensures y { IfOk result.1
+        (λ g. HasCoefficients (parameters_of plan.now) Y (planes_in planes.now) g) }
 {
     join(
         rt,
-        || component(alloc, plan, planes, Component::C1, c1),
         || component(alloc, plan, planes, Component::C2, c2),
+        || component_joined(rt, alloc, plan, planes, Component::Y, y),
     )
 }
 
