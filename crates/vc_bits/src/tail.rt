@@ -32,11 +32,11 @@ impl BitTail {
         BitTail { word: 0, count: 0 }
     }
 
-    /// Adds the last bits of a number, up to 32 of them, the most significant first. The number has no
+    /// Adds the last bits of a number, up to 56 of them, the most significant first. The number has no
     /// others. The bytes have room for eight more.
     #[inline(always)]
     pub fn add(&mut self, bytes: &mut Vec<u8>, number: u64, count: u32)
-        requires count { count ≤ 32 }
+        requires count { count ≤ 56 }
         requires number { number < 2 ^ count }
         requires room { vec_len bytes.old + 8 ≤ vec_capacity bytes.old }
         ensures bits { bits_of bytes.new.items ++ self.new

@@ -71,16 +71,15 @@ pub sign_below : (sign : Bool) → bool_byte sign < 2
 sign_below true = omega arith
 sign_below false = omega arith
 
-pub code_joined : (v : ℤ) (magnitude digits place code sign : ℕ) (old after : List Bool) → magnitude ≡ unsigned_abs v → place ≡ 0 → 0 < unsigned_abs v → word_bits (2 * (digits - place)) code ≡ spread_digits ((magnitude + 1) / 2 ^ place)
-    → sign ≡ bool_byte (is_negative v) → after ≡ old ++ word_bits (2 * digits + 2) (code * 4 + (2 + sign)) → after ≡ old ++ sint_bits v
-code_joined v magnitude digits place code sign old after same none some so_far is added =
+pub code_joined : (v : ℤ) (magnitude digits place code sign : ℕ) → magnitude ≡ unsigned_abs v → place ≡ 0 → 0 < unsigned_abs v → word_bits (2 * (digits - place)) code ≡ spread_digits ((magnitude + 1) / 2 ^ place)
+    → sign ≡ bool_byte (is_negative v) → word_bits (2 * digits + 2) (code * 4 + (2 + sign)) ≡ sint_bits v
+code_joined v magnitude digits place code sign same none some so_far is =
     let all : 2 * digits ≡ 2 * (digits - place) = omega (arith, none) in
     let small : 2 + sign < 2 ^ 2 = omega (arith, is, sign_below (is_negative v)) in
     let all_digits = word_bits (2 * digits) code in
-    added
-    ∙ ap (λ (bits : List Bool). old ++ bits) (joined_bits (2 * digits) code 2 (2 + sign) small
+    joined_bits (2 * digits) code 2 (2 + sign) small
     ∙ sign_added v place sign [] all_digits (all_digits ++ word_bits 2 (2 + sign)) none some
-    (ap (λ (n : ℕ). word_bits n code) all ∙ so_far ∙ ap (λ (n : ℕ). spread_digits ((n + 1) / 2 ^ place)) same) is refl)
+    (ap (λ (n : ℕ). word_bits n code) all ∙ so_far ∙ ap (λ (n : ℕ). spread_digits ((n + 1) / 2 ^ place)) same) is refl
 
 pub code_fits : (digits place code sign : ℕ) (negative : Bool) → place ≤ 0 → code < 2 ^ (2 * (digits - place)) → sign ≡ bool_byte negative → code * 4 + (2 + sign) < 2 ^ (2 * digits + 2)
 code_fits digits place code sign negative none fits is =
@@ -128,18 +127,14 @@ pair_added numbers i before after below so_far added =
     (added ∙ sym (append_assoc before (sint_bits first) (sint_bits second)))
     ∙ ap (λ (n : ℕ). flat_map sint_bits (take n numbers)) next
 
--- and two pairs
-pub quad_added : (numbers : List ℤ) (i : ℕ) (before after : List Bool) → i + 3 < length numbers → before ≡ flat_map sint_bits (take i numbers)
-    → after ≡ before ++ ((sint_bits (get_or numbers i (pos 0)) ++ sint_bits (get_or numbers (i + 1) (pos 0))) ++ (sint_bits (get_or numbers (i + 2) (pos 0)) ++ sint_bits (get_or numbers (i + 3) (pos 0))))
-    → after ≡ flat_map sint_bits (take (i + 4) numbers)
-quad_added numbers i before after below so_far added =
+-- and three more
+pub triple_added : (numbers : List ℤ) (i : ℕ) (before after : List Bool) → i + 2 < length numbers → before ≡ flat_map sint_bits (take i numbers)
+    → after ≡ before ++ ((sint_bits (get_or numbers i (pos 0)) ++ sint_bits (get_or numbers (i + 1) (pos 0))) ++ sint_bits (get_or numbers (i + 2) (pos 0)))
+    → after ≡ flat_map sint_bits (take (i + 3) numbers)
+triple_added numbers i before after below so_far added =
     let pair = sint_bits (get_or numbers i (pos 0)) ++ sint_bits (get_or numbers (i + 1) (pos 0)) in
-    let third = sint_bits (get_or numbers (i + 2) (pos 0)) in
-    let last : i + 3 ≡ i + 2 + 1 = omega arith in
-    let next : i + 2 + 2 ≡ i + 4 = omega arith in
-    pair_added numbers (i + 2) (before ++ pair) after (omega (arith, below))
+    let next : i + 2 + 1 ≡ i + 3 = omega arith in
+    code_more numbers (i + 2) (before ++ pair) after below
     (pair_added numbers i before (before ++ pair) (omega (arith, below)) so_far refl)
-    (added
-    ∙ ap (λ (n : ℕ). before ++ (pair ++ (third ++ sint_bits (get_or numbers n (pos 0))))) last
-    ∙ sym (append_assoc before pair (third ++ sint_bits (get_or numbers (i + 2 + 1) (pos 0)))))
+    (added ∙ sym (append_assoc before pair (sint_bits (get_or numbers (i + 2) (pos 0)))))
     ∙ ap (λ (n : ℕ). flat_map sint_bits (take n numbers)) next

@@ -5,7 +5,7 @@ use Rattle.vc_bits.specs.Bits.{word_bits}
 use Rattle.vc_bits.proofs.Waiting.{joined_bits, joined_fits, moved_up}
 use Rattle.vc_bits.proofs.Words.{only_ones}
 
-module _ (ones count number : ℕ) (few : ones ≤ 16) (short : count ≤ 16) (small : number < 2 ^ count) where
+module _ (ones count number : ℕ) (few : ones ≤ 14) (short : count ≤ 18) (small : number < 2 ^ count) where
   some : 0 < 2 ^ ones
   some = pow_pos ones
 

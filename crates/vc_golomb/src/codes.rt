@@ -5,10 +5,9 @@ ghost use Rattle.vc_types.specs.Bits.{bits_of};
 ghost use Rattle.vc_types.specs.Codes.{sint_bits};
 ghost use Rattle.vc_types.specs.Lifting.{line_of};
 ghost use Rattle.vc_bits.specs.Bits.{to_edge, word_bits};
-ghost use Rattle.vc_golomb.specs.Pairs.{IsPair};
+ghost use Rattle.vc_golomb.specs.Short.{IsShort};
 
-use crate::pairs::{is_small, pair_code};
-use crate::short::{SHORT, code_behind, short_code};
+use crate::short::{Code, code_behind, is_short, short_code};
 use std::alloc::Global;
 use vc_bits::BitTail;
 use vc_types::NoMemory;
@@ -26,10 +25,10 @@ pub fn sint_codes(used: Vec<u8>, numbers: &[i32]) -> Result<Vec<u8>, NoMemory>
     bytes.reserve(8 * numbers.len() + 8)?;
     let mut tail = BitTail::new();
     let mut at = 0;
-    'quads: while numbers.len() - at >= 4 {
-        if begins_quad(numbers, at) {
-            add_quad(&mut bytes, &mut tail, numbers, at);
-            at += 4;
+    'triples: while numbers.len() - at >= 3 {
+        if begins_triple(numbers, at) {
+            add_triple(&mut bytes, &mut tail, numbers, at);
+            at += 3;
         } else {
             add_code(&mut bytes, &mut tail, numbers[at]);
             at += 1;
@@ -43,36 +42,44 @@ pub fn sint_codes(used: Vec<u8>, numbers: &[i32]) -> Result<Vec<u8>, NoMemory>
     Ok(bytes)
 }
 
-// Whether the four numbers from one of them on are so small that a table has the codes of each two.
+// Whether the table has the codes of the three numbers from one of them on.
 #[inline(always)]
-fn begins_quad(numbers: &[i32], at: usize) -> bool
-    requires { at + 4 ≤ length numbers.now }
-    ensures first { result ≡ true → IsPair numbers.now at }
-    ensures second { result ≡ true → IsPair numbers.now (at + 2) }
+fn begins_triple(numbers: &[i32], at: usize) -> bool
+    requires { at + 3 ≤ length numbers.now }
+    ensures first { result ≡ true → IsShort (line_of numbers.now at) }
+    ensures second { result ≡ true → IsShort (line_of numbers.now (at + 1)) }
+    ensures third { result ≡ true → IsShort (line_of numbers.now (at + 2)) }
 {
-    let first = numbers[at];
-    let second = numbers[at + 1];
-    let third = numbers[at + 2];
-    let fourth = numbers[at + 3];
-    is_small(first) && is_small(second) && is_small(third) && is_small(fourth)
+    is_short_at(numbers, at) && is_short_at(numbers, at + 1) && is_short_at(numbers, at + 2)
 }
 
-// The codes of two pairs are added at once.
 #[inline(always)]
-fn add_quad(bytes: &mut Vec<u8>, tail: &mut BitTail, numbers: &[i32], at: usize)
-    requires first { IsPair numbers.now at }
-    requires second { IsPair numbers.now (at + 2) }
+fn is_short_at(numbers: &[i32], at: usize) -> bool
+    requires { at < length numbers.now }
+    ensures { result ≡ true → IsShort (line_of numbers.now at) }
+{
+    is_short(i64::from(numbers[at]))
+}
+
+// The codes of the three numbers are added at once.
+#[inline(always)]
+fn add_triple(bytes: &mut Vec<u8>, tail: &mut BitTail, numbers: &[i32], at: usize)
+    requires inside { at + 3 ≤ length numbers.now }
+    requires first { IsShort (line_of numbers.now at) }
+    requires second { IsShort (line_of numbers.now (at + 1)) }
+    requires third { IsShort (line_of numbers.now (at + 2)) }
     requires room { 8 * vec_len bytes.old + length tail.old + 128 ≤ 8 * vec_capacity bytes.old }
     ensures bits { bits_of bytes.new.items ++ tail.new ≡ (bits_of bytes.old.items ++ tail.old)
         ++ ((sint_bits (line_of numbers.now at) ++ sint_bits (line_of numbers.now (at + 1)))
-        ++ (sint_bits (line_of numbers.now (at + 2)) ++ sint_bits (line_of numbers.now (at + 3)))) }
+        ++ sint_bits (line_of numbers.now (at + 2))) }
     ensures len { 8 * vec_len bytes.new + length tail.new
         ≤ 8 * vec_len bytes.old + length tail.old + 64 }
     ensures capacity { vec_capacity bytes.new ≡ vec_capacity bytes.old }
 {
-    let first = pair_code(numbers[at], numbers[at + 1]);
-    let second = pair_code(numbers[at + 2], numbers[at + 3]);
-    let code = code_behind(first, second);
+    let first = short_code(i64::from(numbers[at]));
+    let second = short_code(i64::from(numbers[at + 1]));
+    let third = short_code(i64::from(numbers[at + 2]));
+    let code = code_behind(code_behind(first, second), third);
     tail.add(bytes, code.bits, code.count);
 }
 
@@ -85,24 +92,44 @@ fn add_code(bytes: &mut Vec<u8>, tail: &mut BitTail, v: i32)
         ≤ 8 * vec_len bytes.old + length tail.old + 64 }
     ensures capacity { vec_capacity bytes.new ≡ vec_capacity bytes.old }
 {
-    if u64::from(v.unsigned_abs()) < SHORT {
-        let code = short_code(i64::from(v));
+    let number = i64::from(v);
+    if is_short(number) {
+        let code = short_code(number);
         tail.add(bytes, code.bits, code.count);
     } else {
-        add_long(bytes, tail, v);
+        add_long(bytes, tail, long_code(v));
     }
 }
 
-// The same of a number that isn't 0, whose code is put together digit by digit.
+// Adds a code of up to 64 bits.
 #[inline(always)]
-fn add_long(bytes: &mut Vec<u8>, tail: &mut BitTail, v: i32)
-    requires other { 0 < unsigned_abs v }
+fn add_long(bytes: &mut Vec<u8>, tail: &mut BitTail, code: Code)
+    requires count { code.count ≤ 64 }
+    requires range { code.bits < 2 ^ code.count }
     requires room { 8 * vec_len bytes.old + length tail.old + 128 ≤ 8 * vec_capacity bytes.old }
     ensures bits { bits_of bytes.new.items ++ tail.new
-        ≡ (bits_of bytes.old.items ++ tail.old) ++ sint_bits v }
+        ≡ (bits_of bytes.old.items ++ tail.old) ++ word_bits code.count code.bits }
     ensures len { 8 * vec_len bytes.new + length tail.new
-        ≤ 8 * vec_len bytes.old + length tail.old + 64 }
+        ≡ 8 * vec_len bytes.old + length tail.old + code.count }
     ensures capacity { vec_capacity bytes.new ≡ vec_capacity bytes.old }
+{
+    if code.count > 32 {
+        tail.add(bytes, code.bits >> 32, code.count - 32);
+        tail.add(bytes, code.bits % (1 << 32), 32);
+    } else {
+        tail.add(bytes, code.bits, code.count);
+    }
+}
+
+// The code of a number that isn't 0, put together digit by digit. It stands apart, so that there are
+// registers for the loop over the others.
+#[cold]
+#[inline(never)]
+fn long_code(v: i32) -> Code
+    requires { 0 < unsigned_abs v }
+    ensures value { word_bits result.count result.bits ≡ sint_bits v }
+    ensures count { result.count ≤ 64 }
+    ensures range { result.bits < 2 ^ result.count }
 {
     let number = v.unsigned_abs() + 1;
     let digits = number.ilog2();
@@ -113,25 +140,8 @@ fn add_long(bytes: &mut Vec<u8>, tail: &mut BitTail, v: i32)
         code = code * 4 + u64::from((number >> place) % 2);
     }
     let end = 2 + u64::from(v.is_negative());
-    add_bits(bytes, tail, code * 4 + end, 2 * digits + 2);
-}
-
-// Adds the last bits of a number, up to 64 of them. The number has no others.
-#[inline(always)]
-fn add_bits(bytes: &mut Vec<u8>, tail: &mut BitTail, number: u64, count: u32)
-    requires count { count ≤ 64 }
-    requires number { number < 2 ^ count }
-    requires room { 8 * vec_len bytes.old + length tail.old + 128 ≤ 8 * vec_capacity bytes.old }
-    ensures bits { bits_of bytes.new.items ++ tail.new
-        ≡ (bits_of bytes.old.items ++ tail.old) ++ word_bits count number }
-    ensures len { 8 * vec_len bytes.new + length tail.new
-        ≡ 8 * vec_len bytes.old + length tail.old + count }
-    ensures capacity { vec_capacity bytes.new ≡ vec_capacity bytes.old }
-{
-    if count > 32 {
-        tail.add(bytes, number >> 32, count - 32);
-        tail.add(bytes, number % (1 << 32), 32);
-    } else {
-        tail.add(bytes, number, count);
+    Code {
+        bits: code * 4 + end,
+        count: 2 * digits + 2,
     }
 }

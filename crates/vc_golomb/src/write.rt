@@ -1,8 +1,9 @@
 ghost use Rattle.std.specs.Prelude.{◌≡◌, ◌<◌, ◌≤◌, ◌^◌, ◌++◌, true, replicate, unsigned_abs, OnOk, OnErr};
 ghost use Rattle.vc_types.specs.Codes.{uint_bits, sint_bits};
+ghost use Rattle.vc_golomb.specs.Short.{IsShort};
 ghost use Rattle.vc_golomb.specs.Writing.{WroteFront};
 
-use crate::short::{SHORT, behind_ones, short_code};
+use crate::short::{behind_ones, is_short, short_code};
 use vc_bits::BitWriter;
 use vc_types::NoMemory;
 
@@ -29,7 +30,7 @@ pub fn write_sint(w: &mut BitWriter, v: i64) -> Result<(), NoMemory>
     ensures ok { OnOk result (w.new ≡ w.old ++ sint_bits v) }
     ensures front { OnErr result (WroteFront (sint_bits v) w.old w.new) }
 {
-    if v.unsigned_abs() < SHORT {
+    if is_short(v) {
         write_short(w, v)
     } else {
         write_long(w, v)
@@ -42,7 +43,7 @@ pub fn write_behind_zeros(w: &mut BitWriter, zeros: u64, v: i64) -> Result<(), N
     requires { unsigned_abs v < 2 ^ 62 }
     ensures { OnOk result (w.new ≡ w.old ++ replicate zeros true ++ sint_bits v) }
 {
-    if zeros <= 16 && v.unsigned_abs() < SHORT {
+    if zeros <= 14 && is_short(v) {
         write_run(w, zeros as u32, v)
     } else {
         w.repeat(true, zeros)?;
@@ -53,8 +54,8 @@ pub fn write_behind_zeros(w: &mut BitWriter, zeros: u64, v: i64) -> Result<(), N
 // The same of few zeros and a small number, at once.
 #[inline(always)]
 fn write_run(w: &mut BitWriter, zeros: u32, v: i64) -> Result<(), NoMemory>
-    requires zeros { zeros ≤ 16 }
-    requires number { unsigned_abs v < 255 }
+    requires zeros { zeros ≤ 14 }
+    requires number { IsShort v }
     ensures { OnOk result (w.new ≡ w.old ++ replicate zeros true ++ sint_bits v) }
 {
     let run = behind_ones(zeros, short_code(v));
@@ -63,7 +64,7 @@ fn write_run(w: &mut BitWriter, zeros: u32, v: i64) -> Result<(), NoMemory>
 
 #[inline(always)]
 fn write_short(w: &mut BitWriter, v: i64) -> Result<(), NoMemory>
-    requires { unsigned_abs v < 255 }
+    requires { IsShort v }
     ensures ok { OnOk result (w.new ≡ w.old ++ sint_bits v) }
     ensures front { OnErr result (WroteFront (sint_bits v) w.old w.new) }
 {

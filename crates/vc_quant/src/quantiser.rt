@@ -130,28 +130,30 @@ impl Quantiser {
         })
     }
 
-    /// Puts in the place of coefficients the numbers that this encoder quantises them to: `greatest` is at
-    /// least each coefficient's magnitude.
+    /// Writes the numbers that this encoder quantises coefficients to: `greatest` is at least each
+    /// coefficient's magnitude.
     #[inline]
-    pub fn quant_all(&self, coefficients: &mut [i32], greatest: u32)
-        requires greatest { All (λ z. unsigned_abs z ≤ greatest) coefficients.old }
-        ensures { (k : ℕ) → k < length coefficients.old
-            → line_of coefficients.new k ≡ quantised (line_of coefficients.old k) self.now.index }
+    pub fn quant_to(&self, coefficients: &[i32], numbers: &mut [i32], greatest: u32)
+        requires greatest { All (λ z. unsigned_abs z ≤ greatest) coefficients.now }
+        requires length { length numbers.old ≡ length coefficients.now }
+        ensures { (k : ℕ) → k < length coefficients.now
+            → line_of numbers.new k ≡ quantised (line_of coefficients.now k) self.now.index }
     {
         if greatest < NARROW {
-            NarrowReciprocal::new(self.index).quantise(coefficients);
+            NarrowReciprocal::new(self.index).quantise(coefficients, numbers);
         } else {
-            self.quant_each(coefficients);
+            self.quant_each(coefficients, numbers);
         }
     }
 
     // The same one by one, however large they are.
-    fn quant_each(&self, coefficients: &mut [i32])
-        ensures { (k : ℕ) → k < length coefficients.old
-            → line_of coefficients.new k ≡ quantised (line_of coefficients.old k) self.now.index }
+    fn quant_each(&self, coefficients: &[i32], numbers: &mut [i32])
+        requires { length numbers.old ≡ length coefficients.now }
+        ensures { (k : ℕ) → k < length coefficients.now
+            → line_of numbers.new k ≡ quantised (line_of coefficients.now k) self.now.index }
     {
-        for coefficient in coefficients.iter_mut() {
-            *coefficient = self.quant_one(*coefficient);
+        for k in 0..coefficients.len() {
+            numbers[k] = self.quant_one(coefficients[k]);
         }
     }
 

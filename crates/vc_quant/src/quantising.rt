@@ -35,14 +35,15 @@ impl NarrowReciprocal {
         }
     }
 
-    /// Puts in the place of coefficients of small magnitudes the numbers that they are quantised to.
-    pub(crate) fn quantise(&self, coefficients: &mut [i32])
-        requires { All (λ z. unsigned_abs z < 2 ^ 14) coefficients.old }
-        ensures { (k : ℕ) → k < length coefficients.old
-            → line_of coefficients.new k ≡ quantised (line_of coefficients.old k) self.now.index }
+    /// Writes the numbers that coefficients of small magnitudes are quantised to.
+    pub(crate) fn quantise(&self, coefficients: &[i32], numbers: &mut [i32])
+        requires small { All (λ z. unsigned_abs z < 2 ^ 14) coefficients.now }
+        requires length { length numbers.old ≡ length coefficients.now }
+        ensures { (k : ℕ) → k < length coefficients.now
+            → line_of numbers.new k ≡ quantised (line_of coefficients.now k) self.now.index }
     {
-        for coefficient in coefficients.iter_mut() {
-            *coefficient = self.number(*coefficient);
+        for k in 0..coefficients.len() {
+            numbers[k] = self.number(coefficients[k]);
         }
     }
 

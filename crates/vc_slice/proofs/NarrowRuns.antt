@@ -33,6 +33,18 @@ pub length-block : (p : Parameters) (c : Component) (n index : ℕ) (block : Lis
 unfolding block_coefficients
 length-block p c n index block = grind (arith, length-numbers, length-quantisers, length-map, length-pairs)
 
+-- what is done of those before a run, and of the run at its index, is done of those up to its end
+pub run_done : (from to : ℕ) (indices : List ℕ) (first old new : List ℤ) (f : ℤ → ℕ → ℤ) (q : ℕ)
+    → ((i : ℕ) → from ≤ i → i < to → get_or indices i 0 ≡ q)
+    → ((i : ℕ) → i < from → line_of old i ≡ f (line_of first i) (get_or indices i 0))
+    → ((i : ℕ) → from ≤ i → i < to → line_of new i ≡ f (line_of first i) q)
+    → ((i : ℕ) → (i < from) ⊎ (to ≤ i) → line_of new i ≡ line_of old i)
+    → (i : ℕ) → i < to → line_of new i ≡ f (line_of first i) (get_or indices i 0)
+run_done from to indices first old new f q alike done on off i below = elim (cases_lt i from) [
+  | inl before ↦ off i (inl before) ∙ done i before
+  | inr past ↦ on i past below ∙ ap (f (line_of first i)) (sym (alike i past below))
+]
+
 module _ (p : Parameters) (c : Component) (slice index : ℕ) where
   -- coefficients up to this subband are at most all of them
   pub before_within : (b : ℕ) → coefficients_before p c slice b ≤ slice_coefficient_count p c slice
@@ -97,17 +109,24 @@ module _ (p : Parameters) (c : Component) (slice index : ℕ) where
     pub run_within : from + n ≤ slice_coefficient_count p c slice
     run_within = omega (arith, run_more, before_within (b + 1))
 
+    -- a run of subbands that have the index of this one ends behind it
+    pub alike_more : (start : ℕ) → ((i : ℕ) → start ≤ i → i < from → get_or (quantisers p c slice index) i 0 ≡ index - slice_index_or p.matrix b 0)
+        → (i : ℕ) → start ≤ i → i < from + n → get_or (quantisers p c slice index) i 0 ≡ index - slice_index_or p.matrix b 0
+    alike_more start alike i low below = elim (cases_lt i from) [
+      | inl before ↦ alike i low before
+      | inr past ↦ index_in b i from (from + n) h at (ap (λ (k : ℕ). from + k) count) past below
+    ]
+
     pub done_more : (first old new : List ℤ) (f : ℤ → ℕ → ℤ) (q : ℕ) → q ≡ index - slice_index_or p.matrix b 0
         → ((i : ℕ) → i < from → line_of old i ≡ f (line_of first i) (get_or (quantisers p c slice index) i 0))
         → ((i : ℕ) → from ≤ i → line_of old i ≡ line_of first i)
         → ((i : ℕ) → from ≤ i → i < from + n → line_of new i ≡ f (line_of old i) q)
         → ((i : ℕ) → (i < from) ⊎ (from + n ≤ i) → line_of new i ≡ line_of old i)
         → (i : ℕ) → i < from + n → line_of new i ≡ f (line_of first i) (get_or (quantisers p c slice index) i 0)
-    done_more first old new f q is done left on off i below = elim (cases_lt i from) [
-      | inl before ↦ off i (inl before) ∙ done i before
-      | inr past ↦ on i past below ∙ ap (λ (z : ℤ). f z q) (left i past)
-          ∙ ap (f (line_of first i)) (is ∙ sym (index_in b i from (from + n) h at (ap (λ (k : ℕ). from + k) count) past below))
-    ]
+    done_more first old new f q is done left on off =
+        run_done from (from + n) (quantisers p c slice index) first old new f q
+        (λ i low high. index_in b i from (from + n) h at (ap (λ (k : ℕ). from + k) count) low high ∙ sym is)
+        done (λ i low high. on i low high ∙ ap (λ (z : ℤ). f z q) (left i low)) off
 
 pub narrow_more : (from to : ℕ) (old new : List ℤ) → ((i : ℕ) → i < from → unsigned_abs (line_of old i) < 2 ^ 29)
     → ((i : ℕ) → from ≤ i → i < to → unsigned_abs (line_of new i) < 2 ^ 29) → ((i : ℕ) → (i < from) ⊎ (to ≤ i) → line_of new i ≡ line_of old i)

@@ -38,34 +38,40 @@ module _ (from to : ℕ) (old : List ℤ) (run : (from ≤ to) × (to ≤ length
       subst P (sym (run_at i none below ∙ get_or_default old (from + i) none (pos 0) (omega (arith, run))))
       (each (from + i) (omega arith) (omega arith))
 
-  module _ (new : List ℤ) (long : length new ≡ length own) where
-    placed : (i : ℕ) → from ≤ i → i < to → line_of (put_mid from (to - from) old new) i ≡ line_of new (i - from)
-    placed i low high =
-        let same : i ≡ from + (i - from) = omega arith in
-        ap (λ (n : ℕ). line_of (put_mid from (to - from) old new) n) same
-        ∙ put_back_at from (to - from) old new (omega (arith, run)) (i - from) (omega (arith, long, length-run))
+module _ (from to : ℕ) (old : List ℤ) (run : (from ≤ to) × (to ≤ length old)) (new : List ℤ) (long : length new ≡ length (own from to old run)) where
+  placed : (i : ℕ) → from ≤ i → i < to → line_of (put_mid from (to - from) old new) i ≡ line_of new (i - from)
+  placed i low high =
+      let same : i ≡ from + (i - from) = omega arith in
+      ap (λ (n : ℕ). line_of (put_mid from (to - from) old new) n) same
+      ∙ put_back_at from (to - from) old new (omega (arith, run)) (i - from) (omega (arith, long, length-run from to old run))
 
-    -- what holds of each changed number holds of each number there
-    pub put_back : (P : ℤ → Type 0) → ((i : ℕ) → i < length own → P (line_of new i)) → (i : ℕ) → from ≤ i → i < to → P (line_of (put_mid from (to - from) old new) i)
-    put_back P each i low high = subst P (sym (placed i low high)) (each (i - from) (omega (arith, length-run)))
+  -- what holds of each changed number holds of each number there
+  pub put_back : (P : ℤ → Type 0) → ((i : ℕ) → i < length (own from to old run) → P (line_of new i)) → (i : ℕ) → from ≤ i → i < to → P (line_of (put_mid from (to - from) old new) i)
+  put_back P each i low high = subst P (sym (placed i low high)) (each (i - from) (omega (arith, length-run from to old run)))
 
-    -- each is what a function makes of the one that was there
-    pub put_back_by : (f : ℤ → ℕ → ℤ) (q : ℕ) → ((i : ℕ) → i < length own → line_of new i ≡ f (line_of own i) q)
-        → (i : ℕ) → from ≤ i → i < to → line_of (put_mid from (to - from) old new) i ≡ f (line_of old i) q
-    put_back_by f q each i low high =
-        let same : from + (i - from) ≡ i = omega arith in
-        placed i low high ∙ each (i - from) (omega (arith, length-run))
-        ∙ ap (λ (z : ℤ). f z q) (run_at (i - from) (pos 0) (omega arith) ∙ ap (λ (n : ℕ). line_of old n) same)
+  -- each is what a function makes of the one of another list in its place
+  pub put_back_from : (f : ℤ → ℕ → ℤ) (q : ℕ) (source : List ℤ) (there : (from ≤ to) × (to ≤ length source))
+      → ((i : ℕ) → i < length (own from to source there) → line_of new i ≡ f (line_of (own from to source there) i) q)
+      → (i : ℕ) → from ≤ i → i < to → line_of (put_mid from (to - from) old new) i ≡ f (line_of source i) q
+  put_back_from f q source there each i low high =
+      let same : from + (i - from) ≡ i = omega arith in
+      placed i low high ∙ each (i - from) (omega (arith, length-run from to source there))
+      ∙ ap (λ (z : ℤ). f z q) (run_at from to source there (i - from) (pos 0) (omega arith) ∙ ap (λ (n : ℕ). line_of source n) same)
 
-    pub put_back_off : (i : ℕ) → (i < from) ⊎ (to ≤ i) → line_of (put_mid from (to - from) old new) i ≡ line_of old i
-    put_back_off i off = elim off [
-      | inl before ↦ put_back_below from (to - from) old new (omega (arith, run)) i before
-      | inr behind ↦ (
-          let whole = put_mid from (to - from) old new in
-          let same : i ≡ to + (i - to) = omega arith in
-          ap (λ (n : ℕ). line_of whole n) same
-          ∙ sym (get_or-drop to whole (i - to) (pos 0))
-          ∙ ap (λ (l : List ℤ). line_of l (i - to)) (drop_put from to old new run.0 run.1 (omega (arith, long, length-run)))
-          ∙ get_or-drop to old (i - to) (pos 0)
-          ∙ ap (λ (n : ℕ). line_of old n) (sym same))
-    ]
+  -- each is what a function makes of the one that was there
+  pub put_back_by : (f : ℤ → ℕ → ℤ) (q : ℕ) → ((i : ℕ) → i < length (own from to old run) → line_of new i ≡ f (line_of (own from to old run) i) q)
+      → (i : ℕ) → from ≤ i → i < to → line_of (put_mid from (to - from) old new) i ≡ f (line_of old i) q
+  put_back_by f q = put_back_from f q old run
+
+  pub put_back_off : (i : ℕ) → (i < from) ⊎ (to ≤ i) → line_of (put_mid from (to - from) old new) i ≡ line_of old i
+  put_back_off i off = elim off [
+    | inl before ↦ put_back_below from (to - from) old new (omega (arith, run)) i before
+    | inr behind ↦ (
+        let whole = put_mid from (to - from) old new in
+        let same : i ≡ to + (i - to) = omega arith in
+        ap (λ (n : ℕ). line_of whole n) same
+        ∙ sym (get_or-drop to whole (i - to) (pos 0))
+        ∙ ap (λ (l : List ℤ). line_of l (i - to)) (drop_put from to old new run.0 run.1 (omega (arith, long, length-run from to old run)))
+        ∙ get_or-drop to old (i - to) (pos 0)
+        ∙ ap (λ (n : ℕ). line_of old n) (sym same))
+  ]

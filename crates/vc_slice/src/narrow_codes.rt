@@ -1,8 +1,9 @@
-ghost use Rattle.std.specs.Prelude.{◌≡◌, ◌+◌, ◌<◌, ◌≤◌, ◌⊎◌, ℕ, IfOk, length};
-ghost use Rattle.std.specs.Prelude.{slice_index_or, take, unsigned_abs};
+ghost use Rattle.std.specs.Prelude.{◌≡◌, ◌+◌, ◌<◌, ◌≤◌, ◌↔◌, ℕ, IfOk, length};
+ghost use Rattle.std.specs.Prelude.{slice_index_or, take, true};
 ghost use Rattle.vc_types.specs.Bits.{bits_of};
 ghost use Rattle.vc_types.specs.Encoding.{without_last_zeros};
 ghost use Rattle.vc_types.specs.Lifting.{line_of};
+ghost use Rattle.vc_types.specs.OfPlan.{band_count};
 ghost use Rattle.vc_types.specs.Quantisation.{quantised};
 ghost use Rattle.vc_slice.specs.Inside.{up_to_bytes};
 ghost use Rattle.vc_slice.specs.Bands.{block_codes, coefficient_count, quantisers_of};
@@ -11,7 +12,6 @@ use crate::bands::SliceBands;
 use crate::narrow::greatest;
 use vc_geometry::bands as band_count;
 use vc_golomb::sint_codes;
-use vc_quant::Quantiser;
 use vc_types::{Component, NoMemory};
 
 /// The codes of the numbers of a component's coefficients, up to the last that isn't 0, and ones up to
@@ -27,54 +27,63 @@ pub(crate) fn narrow_codes(
     ensures { IfOk result (λ bytes. bits_of bytes.items
         ≡ up_to_bytes (block_codes bands.now c coefficients.now)) }
 {
-    numbers.clear();
-    numbers.extend_from_slice(coefficients)?;
-    codes_in_place(used, bands, c, numbers)
+    let count = coefficients.len();
+    if numbers.len() < count {
+        numbers.resize(count, 0)?;
+    }
+    codes_by(&mut numbers[..count], used, bands, c, coefficients)
 }
 
-// The same, where the numbers take the place of the coefficients.
-fn codes_in_place(
+// The same by as many numbers.
+fn codes_by(
+    numbers: &mut [i32],
     used: Vec<u8>,
     bands: &SliceBands,
     c: Component,
-    numbers: &mut [i32],
+    coefficients: &[i32],
 ) -> Result<Vec<u8>, NoMemory>
-    requires { length numbers.old ≡ coefficient_count bands.now.parts.now c }
+    requires count { length coefficients.now ≡ coefficient_count bands.now.parts.now c }
+    requires length { length numbers.old ≡ length coefficients.now }
     ensures { IfOk result (λ bytes. bits_of bytes.items
-        ≡ up_to_bytes (block_codes bands.now c numbers.old)) }
+        ≡ up_to_bytes (block_codes bands.now c coefficients.now)) }
 {
-    quantise(bands, c, numbers);
+    quantise(bands, c, coefficients, numbers);
     let count = used_count(numbers);
     sint_codes(used, &numbers[..count])
 }
 
-// Puts in the place of a component's coefficients the numbers that they are quantised to.
-fn quantise(bands: &SliceBands, c: Component, numbers: &mut [i32])
-    requires { length numbers.old ≡ coefficient_count bands.now.parts.now c }
-    ensures { (i : ℕ) → i < length numbers.old → line_of numbers.new i
-        ≡ quantised (line_of numbers.old i) (slice_index_or (quantisers_of bands.now c) i 0) }
+// Writes the numbers that a component's coefficients are quantised to: at once those of subbands one behind
+// the other that have the same index.
+fn quantise(bands: &SliceBands, c: Component, coefficients: &[i32], numbers: &mut [i32])
+    requires count { length coefficients.now ≡ coefficient_count bands.now.parts.now c }
+    requires length { length numbers.old ≡ length coefficients.now }
+    ensures { (i : ℕ) → i < length coefficients.now → line_of numbers.new i
+        ≡ quantised (line_of coefficients.now i) (slice_index_or (quantisers_of bands.now c) i 0) }
 {
-    let greatest = greatest(numbers);
+    let greatest = greatest(coefficients);
     let mut from = 0usize;
+    let mut to = 0usize;
     for b in 0..band_count(&bands.parts.plan) {
-        let to = from + bands.parts.area(c, b) as usize;
-        quantise_run(&bands.quantiser(b), numbers, from, to, greatest);
+        to += bands.parts.area(c, b) as usize;
+        if is_next_alike(bands, b) {
+            continue;
+        }
+        let quantiser = bands.quantiser(b);
+        quantiser.quant_to(&coefficients[from..to], &mut numbers[from..to], greatest);
         from = to;
     }
 }
 
-// The same for the coefficients of one subband, which stand from one place to another.
+// Whether there is a subband behind subband number `b`, of the same index.
 #[inline(always)]
-fn quantise_run(quantiser: &Quantiser, numbers: &mut [i32], from: usize, to: usize, greatest: u32)
-    requires run { (from ≤ to) × (to ≤ length numbers.old) }
-    requires greatest { (i : ℕ) → from ≤ i → i < to
-        → unsigned_abs (line_of numbers.old i) ≤ greatest }
-    ensures on { (i : ℕ) → from ≤ i → i < to
-        → line_of numbers.new i ≡ quantised (line_of numbers.old i) quantiser.now.index }
-    ensures off { (i : ℕ) → (i < from) ⊎ (to ≤ i)
-        → line_of numbers.new i ≡ line_of numbers.old i }
+fn is_next_alike(bands: &SliceBands, b: u32) -> bool
+    requires { b < band_count bands.now.parts.now.plan }
+    ensures { (result ≡ true) ↔ ((b + 1 < band_count bands.now.parts.now.plan)
+        × (slice_index_or bands.now.parts.now.plan.matrix (b + 1) 0
+        ≡ slice_index_or bands.now.parts.now.plan.matrix b 0)) }
 {
-    quantiser.quant_all(&mut numbers[from..to], greatest);
+    let parts = bands.parts;
+    b + 1 < band_count(&parts.plan) && parts.matrix_entry(b + 1) == parts.matrix_entry(b)
 }
 
 // How many numbers there are up to the last that isn't 0.

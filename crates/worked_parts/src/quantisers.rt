@@ -141,13 +141,10 @@ pub(crate) fn dequantised_at_once(given: &str, said: &mut Said) -> Result<(), Ba
 
 /// The numbers of coefficients up to a greatest magnitude, at once.
 pub(crate) fn quantised_at_once(given: &str, said: &mut Said) -> Result<(), Bad> {
-    let Bounded {
-        q,
-        greatest,
-        mut cells,
-    } = bounded_of(said.alloc(), given)?;
-    Quantiser::new(q).quant_all(cells.as_mut_slice(), greatest);
-    said.words(cells.as_slice());
+    let Bounded { q, greatest, cells } = bounded_of(said.alloc(), given)?;
+    let mut numbers = vec![in said.alloc(); 0i32; cells.len()]?;
+    Quantiser::new(q).quant_to(cells.as_slice(), numbers.as_mut_slice(), greatest);
+    said.words(numbers.as_slice());
     Ok(())
 }
 

@@ -1,65 +1,9 @@
-use Rattle.std.proofs.Common.{◌≡◌, ◌*◌, ◌+◌, ◌-◌, ◌<◌, ℤ, ap, arith, le_refl, unsigned_abs, w32, ◌∙◌}
-use Rattle.std.specs.Int.{is_negative}
-use mir.Val.{bool_byte}
-use Rattle.std.proofs.lemmas.Int.{to_z-of_z}
-use Rattle.std.proofs.lemmas.Nat.{pow_pos}
-use Rattle.vc_golomb.proofs.AppendedCodes.{code_fits, code_joined, digit_fits, digit_joined, has_room, no_digit_yet, sign_below, some_before}
-use Rattle.vc_golomb.proofs.WrittenCodes.{first}
+use Rattle.std.proofs.Common.{arith}
+use Rattle.vc_golomb.proofs.AppendedCodes.{first_part_fits, two_parts}
 use Rattle.vc_golomb.proofs.codes.add_long.Goals as goal
 
-pub digits-init : goal.digits-init
-digits-init c =
-    let digits = c.ilog2-digits.result in
-    let whole = c.ilog2-digits.ensures in
-    record {
-      digits = whole.bound;
-      place = le_refl digits;
-      some = first c.unsigned_abs-number.result digits whole.power_le;
-      bits = no_digit_yet c.unsigned_abs-number.result digits whole.power_le whole.next_power_gt;
-      range = pow_pos (2 * (digits - digits));
-    }
+pub add-requires-clause-number : goal.add-requires-clause-number
+add-requires-clause-number c = first_part_fits c.args.code.count c.args.code.bits (omega arith) c.requires.range
 
-pub overflow_mul-code : goal.overflow_mul-code
-overflow_mul-code c =
-    let few = c.digits.invariant in
-    omega (arith, has_room (2 * (c.ilog2-digits.result - c.digits.place)) c.digits.code (omega (arith, few.digits)) few.range)
-
-pub overflow_add-code : goal.overflow_add-code
-overflow_add-code c =
-    let few = c.digits.invariant in
-    omega (arith, c.from.ensures, has_room (2 * (c.ilog2-digits.result - c.digits.place)) c.digits.code (omega (arith, few.digits)) few.range)
-
-pub digits-preserved : goal.digits-preserved
-digits-preserved c =
-    let digits = c.ilog2-digits.result in
-    let place = c.digits.place in
-    let so_far = c.digits.invariant in
-    let more = c.digits-test.true in
-    let small : c.from.result < 2 = omega (arith, c.from.ensures) in
-    record {
-      digits = so_far.digits;
-      place = omega (arith, so_far.place);
-      some = some_before (c.unsigned_abs-number.result + 1) place more so_far.some;
-      bits = digit_joined c.unsigned_abs-number.result digits place c.digits.code c.from.result more so_far.place so_far.some so_far.bits c.from.ensures;
-      range = digit_fits digits place c.digits.code c.from.result more so_far.place so_far.range small;
-    }
-
-pub overflow_mul-code-2 : goal.overflow_mul-code-2
-overflow_mul-code-2 c =
-    let few = c.digits.invariant in
-    omega (arith, has_room (2 * (c.ilog2-digits.result - c.digits.place)) c.digits.code (omega (arith, few.digits)) few.range)
-
-pub overflow_add-code-2 : goal.overflow_add-code-2
-overflow_add-code-2 c =
-    let few = c.digits.invariant in
-    omega (arith, c.from-end.ensures, sign_below c.is_negative.result, has_room (2 * (c.ilog2-digits.result - c.digits.place)) c.digits.code (omega (arith, few.digits)) few.range)
-
-pub add_bits-requires-clause-number : goal.add_bits-requires-clause-number
-add_bits-requires-clause-number c = code_fits c.ilog2-digits.result c.digits.place c.digits.code c.from-end.result c.is_negative.result c.digits-test.false c.digits.invariant.range c.from-end.ensures
-
-pub returns-clause-bits : goal.returns-clause-bits
-returns-clause-bits c =
-    let plain = to_z-of_z w32 c.args.v c.ranges.v in
-    let magnitude : c.unsigned_abs-number.result ≡ unsigned_abs c.args.v = c.unsigned_abs-number.ensures.value ∙ ap (λ (z : ℤ). unsigned_abs z) plain in
-    let sign : c.from-end.result ≡ bool_byte (is_negative c.args.v) = c.from-end.ensures ∙ ap bool_byte (c.is_negative.ensures ∙ ap (λ (z : ℤ). is_negative z) plain) in
-    code_joined c.args.v c.unsigned_abs-number.result c.ilog2-digits.result c.digits.place c.digits.code c.from-end.result _ _ magnitude (omega arith) c.requires.other c.digits.invariant.bits sign c.add_bits.ensures.bits
+pub returns-then-code-gt32-clause-bits : goal.returns-then-code-gt32-clause-bits
+returns-then-code-gt32-clause-bits c = two_parts c.args.code.count c.args.code.bits _ _ _ (omega arith) c.add.ensures.bits c.add-then-code-gt32.ensures.bits

@@ -1,19 +1,19 @@
 use Rattle.std.proofs.Common.{◌≡◌, append-nil, arith, rules, get_or, pos, to_z, of_z}
 use Rattle.std.specs.Int.{w32}
 use Rattle.vc_types.proofs.Bits.{bits_of-nil}
-use Rattle.vc_golomb.proofs.AppendedCodes.{quad_added, code_more}
+use Rattle.vc_golomb.proofs.AppendedCodes.{triple_added, code_more}
 use Rattle.vc_golomb.proofs.codes.sint_codes.Goals as goal
 
-pub quads-init : goal.quads-init
-quads-init c = grind (arith, append-nil, bits_of-nil)
+pub triples-init : goal.triples-init
+triples-init c = grind (arith, append-nil, bits_of-nil)
 
-pub add_quad-requires-clause-room : goal.add_quad-requires-clause-room
-add_quad-requires-clause-room c = omega arith
+pub add_triple-requires-clause-room : goal.add_triple-requires-clause-room
+add_triple-requires-clause-room c = omega arith
 
-pub quads-preserved-then-begins_quad : goal.quads-preserved-then-begins_quad
-quads-preserved-then-begins_quad c = record {
+pub triples-preserved-then-begins_triple : goal.triples-preserved-then-begins_triple
+triples-preserved-then-begins_triple c = record {
   within = omega arith;
-  bits = quad_added c.args.numbers.now c.quads.at _ _ (omega arith) c.quads.invariant.bits c.add_quad.ensures.bits;
+  bits = triple_added c.args.numbers.now c.triples.at _ _ (omega arith) c.triples.invariant.bits c.add_triple.ensures.bits;
   len = omega arith;
   capacity = omega arith;
 }
@@ -21,14 +21,14 @@ quads-preserved-then-begins_quad c = record {
 pub add_code-requires : goal.add_code-requires
 add_code-requires c = record { room = omega arith }
 
-pub quads-preserved : goal.quads-preserved
-quads-preserved c =
+pub triples-preserved : goal.triples-preserved
+triples-preserved c =
     let numbers = c.args.numbers.now in
-    let i = c.quads.at in
+    let i = c.triples.at in
     let own : to_z w32 (of_z w32 (get_or numbers i (pos 0))) ≡ get_or numbers i (pos 0) = search rules in
     record {
       within = omega arith;
-      bits = code_more numbers i _ _ (omega arith) c.quads.invariant.bits (rw own at c.add_code.ensures.bits);
+      bits = code_more numbers i _ _ (omega arith) c.triples.invariant.bits (rw own at c.add_code.ensures.bits);
       len = omega arith;
       capacity = omega arith;
     }

@@ -1,10 +1,10 @@
-use Rattle.std.proofs.Common.{◌≡◌, ◌<◌, ◌≤◌, ℕ}
+use Rattle.std.proofs.Common.{◌≡◌, ◌<◌, ℕ, length}
 use Rattle.vc_types.specs.Lifting.{line_of}
 use Rattle.vc_types.specs.Quantisation.{quantised}
 use Rattle.vc_quant.proofs.quantiser.Quantiser.quant_each.Given as goal
 
-abbrev pub invariant-loop-coefficient : goal.invariant-loop-coefficient
-invariant-loop-coefficient l = record {
-  done : (k : ℕ) → k < l.coefficient-index → line_of l.coefficients k ≡ quantised (line_of l.initial.coefficients k) l.self.index;
-  left : (k : ℕ) → l.coefficient-index ≤ k → line_of l.coefficients k ≡ line_of l.initial.coefficients k;
+abbrev pub invariant-loop-k : goal.invariant-loop-k
+invariant-loop-k l = record {
+  done : (i : ℕ) → i < l.k → line_of l.numbers i ≡ quantised (line_of l.coefficients i) l.self.index;
+  long : length l.numbers ≡ length l.coefficients;
 }

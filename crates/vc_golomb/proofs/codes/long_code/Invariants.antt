@@ -1,7 +1,7 @@
 use Rattle.std.proofs.Common.{◌≡◌, ◌-◌, ◌*◌, ◌/◌, ◌^◌, ◌<◌, ◌≤◌}
 use Rattle.vc_types.specs.Codes.{spread_digits}
 use Rattle.vc_bits.specs.Bits.{word_bits}
-use Rattle.vc_golomb.proofs.codes.add_long.Given as goal
+use Rattle.vc_golomb.proofs.codes.long_code.Given as goal
 
 abbrev pub invariant-digits : goal.invariant-digits
 invariant-digits l = record {

@@ -2,7 +2,7 @@ use Rattle.std.proofs.Common.{◌≡◌, length, arith, rules}
 use Rattle.std.proofs.lemmas.List.{length-take}
 use Rattle.vc_types.specs.Encoding.{block_bits}
 use Rattle.vc_slice.proofs.WrittenBlocks.{all_quantised, few_coefficients}
-use Rattle.vc_slice.proofs.narrow_codes.codes_in_place.Goals as goal
+use Rattle.vc_slice.proofs.narrow_codes.codes_by.Goals as goal
 
 pub sint_codes-requires : goal.sint_codes-requires
 sint_codes-requires c =
