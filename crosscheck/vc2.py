@@ -4,6 +4,7 @@ It shares no code with the repository: it was written from the standard and docs
 with their refusals and written, pictures are decoded, planes are transformed both ways. Nothing here is fast.
 """
 
+import fractions
 from typing import NamedTuple
 
 # ---- tables
@@ -67,6 +68,35 @@ TOP_FIRST = {2, 4, 6, 8, 9, 10, 11, 12, 13, 14, 15, 16}
 
 # Luma offset and excursion, colour offset and excursion of the preset signal ranges.
 RANGES = {1: (0, 255, 128, 255), 2: (16, 219, 128, 224), 3: (64, 876, 512, 896), 4: (256, 3504, 2048, 3584)}
+
+# The standard's frame rates and pixel aspect ratios, from index 1 on.
+FRAME_RATES = [
+    (24000, 1001), (24, 1), (25, 1), (30000, 1001), (30, 1), (50, 1), (60000, 1001), (60, 1),
+    (15000, 1001), (25, 2), (48, 1), (48000, 1001), (96, 1), (100, 1), (120000, 1001), (120, 1),
+]  # fmt: skip
+ASPECT_RATIOS = [(1, 1), (10, 11), (12, 11), (40, 33), (16, 11), (4, 3)]
+
+# How the frames of a base video format are shown: the indices of a frame rate and of a pixel aspect ratio, how far from the
+# left the clean area begins, and how wide it is where that isn't the whole width; the index of a colour specification.
+SHOWN = {
+    0: (1, 1, 0, None, 0),
+    1: (9, 2, 0, None, 1),
+    2: (10, 3, 0, None, 2),
+    3: (9, 2, 0, None, 1),
+    4: (10, 3, 0, None, 2),
+    5: (9, 2, 0, None, 1),
+    6: (10, 3, 0, None, 2),
+    7: (4, 2, 8, 704, 1),
+    8: (3, 3, 8, 704, 2),
+    9: (7, 1, 0, None, 3),
+    10: (6, 1, 0, None, 3),
+    11: (4, 1, 0, None, 3),
+    12: (3, 1, 0, None, 3),
+    13: (7, 1, 0, None, 3),
+    14: (6, 1, 0, None, 3),
+    15: (2, 1, 0, None, 4),
+    16: (2, 1, 0, None, 4),
+}
 
 # Parse codes.
 HEADER, END, AUXILIARY, PADDING, LOW_DELAY, PICTURE, FRAGMENT = 0x00, 0x10, 0x20, 0x30, 0xC8, 0xE8, 0xEC
@@ -189,8 +219,42 @@ class Video(NamedTuple):
         return 2 if self.is_wide else 1
 
 
+class Presentation(NamedTuple):
+    """How frames are shown. A ratio is the index of a preset, or a pair; a colour specification is an index, or a list of
+    primaries, matrix and transfer function, None where they aren't coded."""
+
+    rate: object
+    aspect: object
+    clean: tuple
+    colour: object
+
+
+def base_presentation(base):
+    rate, aspect, left, clean_width, colour = SHOWN[base]
+    width, height = BASES[base][:2]
+    return Presentation(rate, aspect, (clean_width or width, height, left, 0), colour or [None] * 3)
+
+
+def read_ratio(bits, default):
+    if not bits.bit():
+        return default
+    return bits.uint() or (bits.uint(), bits.uint())
+
+
+def read_colour(bits, default):
+    if not bits.bit():
+        return default
+    return bits.uint() or [bits.uint() if bits.bit() else None for _ in ("primaries", "matrix", "transfer function")]
+
+
 def read_header(data, profile=3):
     """The value of a sequence header of a profile, 3 or 0, and how many bytes it has."""
+    header, _, used = read_whole_header(data, profile)
+    return header, used
+
+
+def read_whole_header(data, profile=3):
+    """The value of a sequence header, how its frames are shown, and how many bytes it has."""
     bits = Fields(data)
     major, minor = bits.uint(3, 1 if profile == 0 else 2), bits.uint()
     bits.uint(profile, profile)
@@ -203,23 +267,21 @@ def read_header(data, profile=3):
         sampling = bits.uint(2)
     if bits.bit():
         interlaced = bits.uint(1) == 1
-    for _ in ("frame rate", "pixel aspect ratio"):
-        if bits.bit() and bits.uint() == 0:
-            bits.uint(), bits.uint()
+    shown = base_presentation(base)
+    rate, aspect = read_ratio(bits, shown.rate), read_ratio(bits, shown.aspect)
+    clean = shown.clean
     if bits.bit():
-        [bits.uint() for _ in ("clean width", "clean height", "left", "top")]
+        clean = tuple(bits.uint() for _ in ("width", "height", "left", "top"))
     signal = RANGES[preset]
     if bits.bit():
         preset = bits.uint(4)
         signal = RANGES[preset] if preset else custom_range(bits)
-    if bits.bit() and bits.uint() == 0:
-        for _ in ("primaries", "matrix", "transfer function"):
-            if bits.bit():
-                bits.uint()
+    colour = read_colour(bits, shown.colour)
     fields = bits.uint(1) == 1
     if not has_size(width, height, sampling, fields):
         raise Refused
-    return Header(major, minor, level, base, width, height, sampling, interlaced, signal, fields), bits.used()
+    header = Header(major, minor, level, base, width, height, sampling, interlaced, signal, fields)
+    return header, Presentation(rate, aspect, clean, colour), bits.used()
 
 
 def custom_range(bits):
@@ -232,18 +294,27 @@ def has_size(width, height, sampling, fields):
     return 1 <= width <= 8192 and 1 <= height <= 8192 and not (sampling and width % 2) and height % halved == 0
 
 
-def header_bytes(major, minor, level, base, size, sampling, signal, fields, interlaced=None, profile=3):
+def coded_ratio(ratio, presets):
+    """The numbers that a ratio is coded as: the index of a preset, or 0 and the ratio in lowest terms."""
+    lowest = fractions.Fraction(*ratio).as_integer_ratio()
+    return [presets.index(lowest) + 1] if lowest in presets else [0, *lowest]
+
+
+def header_bytes(
+    major, minor, level, base, size, sampling, signal, fields, interlaced=None, profile=3, shown=(None,) * 4
+):
     """A sequence header with a custom size, sampling and signal range: a preset's number, or 0 and the four of a range.
-    Whether it is interlaced is coded where it is given."""
+    Whether it is interlaced is coded where it is given, and so are the numbers of frame rate, pixel aspect ratio, clean area
+    and colour specification."""
     bits = Writer()
     bits.uint(major, minor, profile, level, base)
     bits.part(size)
     bits.part([sampling])
     bits.part(None if interlaced is None else [interlaced])
-    for _ in ("frame rate", "pixel aspect ratio", "clean area"):
-        bits.part(None)
+    for part in shown[:3]:
+        bits.part(part)
     bits.part(signal)
-    bits.part(None)
+    bits.part(shown[3])
     bits.uint(int(fields))
     return bits.bytes()
 

@@ -1,6 +1,6 @@
 -- How generated frames are sent: everything but the frames themselves as a sender is set by
 -- default; and the shape of the frames.
-use Rattle.std.specs.Prelude.{false, List}
+use Rattle.std.specs.Prelude.{false, List, None}
 use Rattle.cmd_gen.specs.Generator.{generated_frames}
 use Rattle.link_model.specs.SendingPictures.{sent_sequence}
 use Rattle.vc_types.specs.declared.choice.IndexChoice.TheVariants.{Index}
@@ -26,6 +26,7 @@ sent_by_default f = record {
   picture = 0;
   rate = record { ticks = 3600; frames = 1 };
   pt = 96;
+  told = None;
 }
 
 -- a frame's planes have the sizes that a picture's would have with frame coding

@@ -28,5 +28,6 @@ pub fn default_settings(g: &GenSettings) -> SendSettings
         picture: 0,
         rate: FrameRate::of_ticks(3600),
         pt: 96,
+        told: None,
     }
 }

@@ -1,9 +1,14 @@
 -- The sequence header and the transform parameters that are sent are read again.
-use Rattle.std.proofs.Common.{◌≡◌, ◌≤◌, ◌∙◌, ap, ℕ, zero, suc, Bool, true, cond, List, [], ◌++◌, length, Some, None, Ok, refl, arith, IsTrue, unwrap_or, nat_le, ◌&&◌}
-use Rattle.link_model.specs.SendingPictures.{sent_sequence, sent_header, sent_parameters, sent_parameter_bytes}
+use Rattle.std.proofs.Common.{◌≡◌, ◌≤◌, ◌∙◌, ap, ℕ, zero, suc, Bool, true, cond, List, [], ◌++◌, length, Option, Some, None, Ok, refl, arith, IsTrue, unwrap_or, nat_le, ◌&&◌}
+use Rattle.link_model.specs.SendingPictures.{sent_sequence, sent_header, sent_presentation, sent_parameters, sent_parameter_bytes}
 use Rattle.vc_types.specs.declared.settings.SendSettings.{SendSettings}
+use Rattle.vc_types.specs.declared.settings.Told.{Told}
+use Rattle.vc_types.specs.Presentations.{nothing_coded, told_fits, told_presentation}
+use Rattle.vc_types.specs.Video.{side_fits, sampling_fits}
+use Rattle.std.specs.Option.{option_map_or}
+use Rattle.std.proofs.lemmas.Bool.{and_parts}
 use Rattle.vc_types.specs.Limits.{matrix_fits, slice_bytes_fit, padded_luma_fits}
-use Rattle.vc_types.specs.HeaderSpelling.{IsEncoderHeader, header_bits, encoder_header}
+use Rattle.vc_types.specs.HeaderSpelling.{IsEncoderHeader, IsPresentation, header_bits, encoder_header_with}
 use Rattle.vc_types.specs.ParameterSpelling.{parameter_bits, encoder_parameters}
 use Rattle.vc_types.specs.Quantisation.{default_matrix}
 use Rattle.vc_types.specs.SenderSettings.{Sending, sending_view}
@@ -11,7 +16,9 @@ use Rattle.vc_types.specs.SequenceHeader.{coded_header, picture_shape}
 use Rattle.vc_types.specs.TransformParameters.{coded_parameters, same_across, default_of}
 use Rattle.vc_types.proofs.MatrixEnds.{default_filled}
 use Rattle.link_model.proofs.PackedBits.{bits_of-filled}
-use Rattle.vc_types.proofs.WrittenHeaders.{header_again}
+use Rattle.vc_types.proofs.PictureShapes.{side_is}
+use Rattle.vc_types.proofs.ToldPresentations.{is_coded}
+use Rattle.vc_types.proofs.WrittenHeaders.{header_with_again, nothing_accepted}
 use Rattle.vc_types.proofs.WrittenParameters.{IsPlan, parameters_again}
 
 -- the default matrix of each wavelet at each depth
@@ -50,10 +57,24 @@ module _ (settings : SendSettings) where
   unfolding sent_sequence
   form = grind (arith, between)
 
+  -- what is told of how the frames are shown can be coded
+  presented_by : (told : Option Told) → option_map_or told_fits told true ≡ true → IsPresentation (option_map_or (told_presentation settings.width settings.height) told nothing_coded)
+  presented_by None fits = nothing_accepted
+  presented_by (Some t) fits =
+      let sides = (and_parts (side_fits settings.width && side_fits settings.height) (sampling_fits settings.width settings.height settings.sampling settings.fields) settings.dimensions).0 in
+      let both = and_parts (side_fits settings.width) (side_fits settings.height) sides in
+      let across = (side_is settings.width both.0).most in
+      let down = (side_is settings.height both.1).most in
+      is_coded settings.width settings.height t (omega (arith, across)) (omega (arith, down)) fits
+
+  pub presented : IsPresentation (sent_presentation s)
+  unfolding sent_presentation
+  presented = presented_by settings.told settings.told_is_known
+
   -- whatever follows it
   pub coded_header-sent : (behind : List ℕ) → coded_header (sent_header s ++ behind) ≡ Ok (sent_sequence s, length (sent_header s))
   unfolding sent_header sent_sequence
-  coded_header-sent behind = header_again (sent_sequence s) (sent_header s) behind form settings.dimensions (bits_of-filled (header_bits (encoder_header (sent_sequence s))))
+  coded_header-sent behind = header_with_again (sent_presentation s) (sent_sequence s) (sent_header s) behind presented form settings.dimensions (bits_of-filled (header_bits (encoder_header_with (sent_presentation s) (sent_sequence s))))
 
   slice_bytes : slice_bytes_fit settings.prefix settings.scaler ≡ true
   slice_bytes = bytes_fit settings.prefix settings.scaler settings.prefix_fits settings.scaler_fits

@@ -5,16 +5,19 @@ use Rattle.std.specs.Prelude.{◌≡◌, ℕ, ◌+◌, ◌-◌, ◌*◌, ◌/◌
 use Rattle.std.specs.Prelude.{map, take}
 use Rattle.std.specs.Prelude.{unwrap_or, ℤ}
 use Rattle.std.specs.List.{range_with_len, enumerate_from, position_or_len}
+use Rattle.std.specs.Option.{option_map_or}
 use Rattle.vc_types.specs.declared.choice.IndexChoice.{IndexChoice}
 use Rattle.vc_types.specs.declared.choice.IndexChoice.TheVariants.{Index, Fit, Budget}
+use Rattle.vc_types.specs.declared.presentation.CodedPresentation.{CodedPresentation}
 use Rattle.vc_types.specs.declared.video.Component.{Component}
 use Rattle.vc_types.specs.declared.video.Component.TheVariants.{Y, C1, C2}
 use Rattle.vc_types.specs.Bits.{number_of}
 use Rattle.vc_types.specs.Encoding.{encoded_slice, encoded_length}
 use Rattle.vc_types.specs.Fields.{filled_up}
-use Rattle.vc_types.specs.HeaderSpelling.{header_bits, encoder_base, encoder_header}
+use Rattle.vc_types.specs.HeaderSpelling.{header_bits, encoder_base, encoder_header_with}
 use Rattle.vc_types.specs.ParameterSpelling.{parameter_bits, encoder_parameters}
 use Rattle.vc_types.specs.Planes.{Planes}
+use Rattle.vc_types.specs.Presentations.{nothing_coded, told_presentation}
 use Rattle.vc_types.specs.Quantisation.{default_matrix}
 use Rattle.vc_types.specs.Rasters.{Raster, sample_at}
 use Rattle.vc_types.specs.SenderSettings.{Sending}
@@ -52,9 +55,15 @@ sent_sequence s = record {
   fields = s.frames.fields;
 }
 
--- its bytes: size, sampling, scan and signal range are coded, and nothing else
+-- what the header codes of how the frames are shown: nothing where nothing is told of it
+unfoldable pub sent_presentation : Sending → CodedPresentation
+sent_presentation s =
+    option_map_or (told_presentation s.frames.width s.frames.height) s.told nothing_coded
+
+-- its bytes: size, sampling, scan and signal range are coded, and how the frames are shown
 unfoldable pub sent_header : Sending → List ℕ
-sent_header s = packed_bits (filled_up (header_bits (encoder_header (sent_sequence s))))
+sent_header s = packed_bits (filled_up (header_bits
+    (encoder_header_with (sent_presentation s) (sent_sequence s))))
 
 -- the same transform across as down, and the default matrix
 unfoldable pub sent_parameters : Sending → Parameters

@@ -1,13 +1,14 @@
 -- The bytes of a picture's sequence header and of its transform parameters.
-use Rattle.std.proofs.Common.{◌≡◌, ℕ, ◌+◌, ◌-◌, ◌*◌, ◌%◌, ◌^◌, ◌<◌, ◌≤◌, Bool, true, false, cond, List, [], ◌∷◌, length, Some, None, refl, sym, ap, subst, ◌∙◌, arith, nat_le, ◌&&◌, ◌==◌, replicate}
+use Rattle.std.proofs.Common.{◌≡◌, ℕ, ◌+◌, ◌-◌, ◌*◌, ◌%◌, ◌^◌, ◌<◌, ◌≤◌, Bool, true, false, cond, List, [], ◌∷◌, length, Option, Some, None, refl, sym, ap, subst, ◌∙◌, arith, nat_le, ◌&&◌, ◌==◌, replicate}
 use Rattle.std.specs.List.{list_all}
+use Rattle.std.specs.Prelude.{IfSome}
 use Rattle.std.proofs.lemmas.Bool.{and_parts, leb-true}
 use Rattle.std.proofs.lemmas.Bool.Decides.{nat_tests}
 use Rattle.std.proofs.lemmas.Grind.{common_steps}
 use Rattle.std.proofs.lemmas.List.{length-append, length-replicate, length-take}
-use Rattle.link_model.specs.SendingPictures.{packed_bits, sent_header, sent_parameter_bytes, sent_parameters, sent_sequence}
+use Rattle.link_model.specs.SendingPictures.{packed_bits, sent_header, sent_presentation, sent_parameter_bytes, sent_parameters, sent_sequence}
 use Rattle.link_model.proofs.PackedBits.{length-packed_bits}
-use Rattle.link_model.proofs.SentHeads.{plan, between}
+use Rattle.link_model.proofs.SentHeads.{plan, between, presented}
 use Rattle.link_sender.proofs.CodedLengths.{uint_short}
 use Rattle.vc_types.specs.Bits.{bits_of, digit_of}
 use Rattle.vc_types.specs.Codes.{uint_bits}
@@ -16,8 +17,13 @@ use Rattle.vc_types.specs.declared.settings.SendSettings.{SendSettings}
 use Rattle.vc_types.specs.declared.video.Sampling.{Sampling}
 use Rattle.vc_types.specs.declared.video.SignalRange.{SignalRange}
 use Rattle.vc_types.specs.Video.{sampling_fits, side_fits}
-use Rattle.vc_types.specs.Fields.{filled_up, flagged_bits, joined}
-use Rattle.vc_types.specs.HeaderSpelling.{IsEncoderHeader, encoder_base, encoder_header, header_bits, preset_of, sampling_index}
+use Rattle.vc_types.specs.Fields.{filled_up, flagged_bits, joined, pair_bits}
+use Rattle.vc_types.specs.HeaderSpelling.{ArePair, IsArea, IsChoice, IsColour, IsEncoderHeader, IsNumber, IsPresentation, area_bits, choice_bits, colour_bits, encoder_base, encoder_header_with, header_bits, preset_of, sampling_index}
+use Rattle.vc_types.specs.declared.presentation.Choice.{Choice}
+use Rattle.vc_types.specs.declared.presentation.Choice.TheVariants.{Preset, Custom}
+use Rattle.vc_types.specs.declared.presentation.CleanArea.{CleanArea}
+use Rattle.vc_types.specs.declared.presentation.CodedPresentation.{CodedPresentation}
+use Rattle.vc_types.specs.declared.presentation.Colour.{Colour}
 use Rattle.vc_types.specs.Limits.{matrix_fits, slice_bytes_fit, slices_fit}
 use Rattle.vc_types.specs.ParameterSpelling.{coded_unless, encoder_parameters, numbers_bits, parameter_bits}
 use Rattle.vc_types.specs.SenderSettings.{Sending, sending_view}
@@ -35,7 +41,7 @@ encoder_form settings = grind (arith, between)
 pub is_encoder_header : (settings : SendSettings) (h : Sequence) → h ≡ sent_sequence (sending_view settings) → IsEncoderHeader h
 is_encoder_header settings h is = subst (λ (x : Sequence). IsEncoderHeader x) (sym is) (encoder_form settings)
 
-pub header_bytes : (s : Sending) (h : Sequence) (bytes : List ℕ) → h ≡ sent_sequence s → bits_of bytes ≡ filled_up (header_bits (encoder_header h)) → packed_bits (bits_of bytes) ≡ sent_header s
+pub header_bytes : (s : Sending) (h : Sequence) (bytes : List ℕ) → h ≡ sent_sequence s → bits_of bytes ≡ filled_up (header_bits (encoder_header_with (sent_presentation s) h)) → packed_bits (bits_of bytes) ≡ sent_header s
 unfolding sent_header
 header_bytes s h bytes is bits = grind arith
 
@@ -88,7 +94,7 @@ pub record AreSmall (p : Parameters) : Type 0 where
   pub scaler : p.scaler < 2 ^ 16
   pub matrix : matrix_fits p.matrix ≡ true
 
-pub few_parameter_bits : (p : Parameters) → AreSmall p → length (parameter_bits 3 (encoder_parameters p)) ≤ 1000
+pub few_parameter_bits : (p : Parameters) → AreSmall p → length (parameter_bits 3 (encoder_parameters p)) ≤ 2000
 few_parameter_bits p small =
     grind (
       arith,
@@ -104,7 +110,7 @@ few_parameter_bits p small =
 filled_length : (bits : List Bool) → length (filled_up bits) ≡ length bits + (8 - length bits % 8) % 8
 filled_length bits = length-append bits (replicate ((8 - length bits % 8) % 8) false) ∙ ap (λ n. length bits + n) (length-replicate ((8 - length bits % 8) % 8) false)
 
-pub few_packed : (bits : List Bool) → length bits ≤ 1000 → length (packed_bits (filled_up bits)) ≤ 1000
+pub few_packed : (bits : List Bool) → length bits ≤ 2000 → length (packed_bits (filled_up bits)) ≤ 1000
 few_packed bits few = grind (arith, filled_length, length-packed_bits)
 
 pub slices_small : (across down : ℕ) → slices_fit across down ≡ true → (across < 2 ^ 16) × (down < 2 ^ 16)
@@ -147,11 +153,59 @@ one_of_four a b c = grind arith
 preset_small : (range : SignalRange) → preset_of range < 2 ^ 16
 preset_small range = one_of_four (range.luma_excursion == 255) (range.luma_excursion == 219) (range.luma_excursion == 876)
 
-few_header_bits : (h : Sequence) → h.width < 2 ^ 16 → h.height < 2 ^ 16 → length (header_bits (encoder_header h)) ≤ 1000
-few_header_bits h across down =
+number_few : (n : ℕ) → IsNumber n → length (uint_bits n) ≤ 67
+number_few n fits = omega (arith, uint_short 32 n (omega (arith, fits)))
+
+-- the index in front of what is coded in place of a preset
+zero_few : length (uint_bits 0) ≤ 1
+zero_few = uint_short 0 0 (omega arith)
+
+ratio_few : (r : Option (Choice (ℕ × ℕ))) → IfSome r (IsChoice (2 ^ 32 - 1) ArePair) → length (flagged_bits (choice_bits pair_bits) r) ≤ 140
+ratio_few None fits = omega arith
+ratio_few (Some (Preset index)) fits = omega (arith, number_few index fits.1)
+ratio_few (Some (Custom p)) fits =
+    let all = length-append (uint_bits 0) (pair_bits p) in
+    let parts = joined_length (uint_bits p.0 ∷ uint_bits p.1 ∷ []) in
+    omega (arith, all, parts, zero_few, number_few p.0 fits.0, number_few p.1 fits.1)
+
+area_few : (a : Option CleanArea) → IfSome a IsArea → length (flagged_bits area_bits a) ≤ 280
+area_few None fits = omega arith
+area_few (Some a) fits = omega (arith, joined_length (uint_bits a.width ∷ uint_bits a.height ∷ uint_bits a.left ∷ uint_bits a.top ∷ []), number_few a.width fits.width, number_few a.height fits.height, number_few a.left fits.left, number_few a.top fits.top)
+
+part_few : (n : Option ℕ) → IfSome n IsNumber → length (flagged_bits uint_bits n) ≤ 68
+part_few None fits = omega arith
+part_few (Some n) fits = omega (arith, number_few n fits)
+
+colour_few : (c : Option (Choice Colour)) → IfSome c (IsChoice (2 ^ 32 - 1) IsColour) → length (flagged_bits (choice_bits colour_bits) c) ≤ 210
+colour_few None fits = omega arith
+colour_few (Some (Preset index)) fits = omega (arith, number_few index fits.1)
+colour_few (Some (Custom c)) fits =
+    let all = length-append (uint_bits 0) (colour_bits c) in
+    let parts = joined_length
+    (flagged_bits uint_bits c.primaries ∷ flagged_bits uint_bits c.matrix ∷ flagged_bits uint_bits c.transfer ∷ []) in
+    omega (
+      arith,
+      all,
+      parts,
+      zero_few,
+      part_few c.primaries fits.primaries,
+      part_few c.matrix fits.matrix,
+      part_few c.transfer fits.transfer,
+    )
+
+few_header_bits : (c : CodedPresentation) (h : Sequence) → IsPresentation c → h.width < 2 ^ 16 → h.height < 2 ^ 16 → length (header_bits (encoder_header_with c h)) ≤ 2000
+few_header_bits c h coded across down =
+    let rate = ratio_few c.frame_rate coded.frame_rate in
+    let aspect = ratio_few c.aspect_ratio coded.aspect_ratio in
+    let area = area_few c.clean_area coded.clean_area in
+    let colour = colour_few c.colour coded.colour in
     grind (
       arith,
       common_steps,
+      rate,
+      aspect,
+      area,
+      colour,
       base_small,
       digit_small,
       few_bits,
@@ -168,4 +222,4 @@ unfolding sent_header sent_sequence
 short_header settings =
     let sides = (and_parts (side_fits settings.width && side_fits settings.height) (sampling_fits settings.width settings.height settings.sampling settings.fields) settings.dimensions).0 in
     let both = and_parts (side_fits settings.width) (side_fits settings.height) sides in
-    few_packed (header_bits (encoder_header (sent_sequence (sending_view settings)))) (few_header_bits (sent_sequence (sending_view settings)) (side_small settings.width both.0) (side_small settings.height both.1))
+    few_packed (header_bits (encoder_header_with (sent_presentation (sending_view settings)) (sent_sequence (sending_view settings)))) (few_header_bits (sent_presentation (sending_view settings)) (sent_sequence (sending_view settings)) (presented settings) (side_small settings.width both.0) (side_small settings.height both.1))

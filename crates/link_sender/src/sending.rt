@@ -23,11 +23,11 @@ use crate::refusal::SendRefusal;
 use crate::samples::{check_samples, check_samples_joined};
 use crate::sender::Sender;
 use crate::writing::write_end;
-use picture_encode::{Chooser, EncodedRun, PictureGrids, header_of, plan_of};
+use picture_encode::{Chooser, EncodedRun, PictureGrids, header_of, plan_of, presentation_of};
 use std::alloc::Global;
 use std::thread::Threads;
 use vc_params::write_params;
-use vc_seqhdr::write_header;
+use vc_seqhdr::write_header_with;
 use vc_types::{NoMemory, PackSettings, Plane, SendSettings, SliceNeed};
 
 impl<F: Fn(&SliceNeed) -> u8> Sender<F> {
@@ -173,7 +173,8 @@ impl<F: Fn(&SliceNeed) -> u8> Sender<F> {
             (picture_at (sending_view self.now.settings) place.now)
             (bytes_of_slices (joined slices.now))) outbox.old outbox.new) }
     {
-        let header = write_header(self.alloc, &self.header)?;
+        let shown = presentation_of(&self.settings);
+        let header = write_header_with(self.alloc, &self.header, &shown)?;
         let params = write_params(self.alloc, 3, &self.plan)?;
         let picture = self.picture(place, &header, &params);
         outbox.put_heads(&picture)?;

@@ -51,9 +51,9 @@ pair_written mark high word =
 abbrev pub slices_written : List ℕ → Option (ℕ × ℕ)
 slices_written word = pair_written 120 65535 word
 
--- so many frames in so many seconds, with : between
-abbrev pub ratio_written : List ℕ → Option (ℕ × ℕ)
-ratio_written word = pair_written 58 4294967295 word
+-- a numerator and a denominator of 1 to a greatest, with : between
+abbrev pub ratio_written : (high : ℕ) → List ℕ → Option (ℕ × ℕ)
+ratio_written high word = pair_written 58 high word
 
 -- 1 to 255 bytes of ASCII
 unfoldable pub is_text : List ℕ → Bool
@@ -71,7 +71,7 @@ accepts (Optional low high) word = is_some (number_within low high word)
 accepts (Required low high) word = is_some (number_within low high word)
 accepts Subsampling word = is_some (sampling_written word)
 accepts Pair word = is_some (slices_written word)
-accepts Ratio word = is_some (ratio_written word)
+accepts (Ratio high) word = is_some (ratio_written high word)
 accepts Address word = nat_lt 0 (length word)
 accepts Text word = is_text word
 

@@ -9,7 +9,8 @@ use Rattle.link_words.specs.declared.options.Name.{Name}
 use Rattle.link_words.specs.declared.options.Name.TheVariants.{Width, Height, Sampling, Range, Fields}
 use Rattle.link_words.specs.declared.options.Name.TheVariants.{Top, Wavelet, Depth, Slices, Prefix}
 use Rattle.link_words.specs.declared.options.Name.TheVariants.{Scaler, Size, Index, Fit, Budget, Ssrc, Seq}
-use Rattle.link_words.specs.declared.options.Name.TheVariants.{Picture, Tick, Rate, Pt, Frames, Seed, Count}
+use Rattle.link_words.specs.declared.options.Name.TheVariants.{Picture, Tick, Rate, Aspect, Colour, Pt}
+use Rattle.link_words.specs.declared.options.Name.TheVariants.{Frames, Seed, Count}
 use Rattle.link_words.specs.declared.options.Name.TheVariants.{Check, Window, Workers, Packets, Pcap}
 use Rattle.link_words.specs.declared.options.Name.TheVariants.{Port, Sessions, Pace, To, At, Every}
 use Rattle.link_words.specs.declared.options.Name.TheVariants.{Reporter, Cname, BySender, Ntp, Idle}
@@ -56,7 +57,9 @@ option_row Ssrc = (codes "--ssrc", Number 0 4294967295 1)
 option_row Seq = (codes "--seq", Number 0 4294967295 0)
 option_row Picture = (codes "--picture", Number 0 4294967295 0)
 option_row Tick = (codes "--tick", Number 0 4294967295 3600)
-option_row Rate = (codes "--rate", Ratio)
+option_row Rate = (codes "--rate", Ratio 4294967295)
+option_row Aspect = (codes "--aspect", Ratio 65535)
+option_row Colour = (codes "--colour", Optional 1 7)
 option_row Pt = (codes "--pt", Number 0 127 96)
 option_row Frames = (codes "--frames", Number 1 4294967295 4294967295)
 option_row Seed = (codes "--seed", Number 0 4294967295 0)
@@ -83,7 +86,7 @@ abbrev pub sender_names : List Name
 sender_names =
     Width ∷ Height ∷ Sampling ∷ Range ∷ Fields ∷ Top
     ∷ Wavelet ∷ Depth ∷ Slices ∷ Prefix ∷ Scaler ∷ Size ∷ Index ∷ Fit ∷ Budget
-    ∷ Ssrc ∷ Seq ∷ Picture ∷ Tick ∷ Rate ∷ Pt ∷ Frames ∷ []
+    ∷ Ssrc ∷ Seq ∷ Picture ∷ Tick ∷ Rate ∷ Aspect ∷ Colour ∷ Pt ∷ Frames ∷ []
 
 -- the options of each command
 abbrev pub names_of : Command → List Name

@@ -6,6 +6,7 @@ use Rattle.std.specs.Str.{bytes_eq}
 use Rattle.std.specs.List.{list_any}
 use Rattle.vc_types.specs.declared.choice.IndexChoice.{IndexChoice}
 use Rattle.vc_types.specs.declared.choice.IndexChoice.TheVariants as choices
+use Rattle.vc_types.specs.declared.settings.Told.{Told}
 use Rattle.vc_types.specs.declared.video.Sampling.{Sampling as SamplingKind}
 use Rattle.vc_types.specs.declared.video.Sampling.TheVariants.{S422}
 use Rattle.vc_types.specs.Video.{dimensions_fit}
@@ -24,7 +25,8 @@ use Rattle.link_words.specs.declared.options.Name.{Name}
 use Rattle.link_words.specs.declared.options.Name.TheVariants.{Width, Height, Sampling, Range, Fields}
 use Rattle.link_words.specs.declared.options.Name.TheVariants.{Top, Wavelet, Depth, Slices, Prefix}
 use Rattle.link_words.specs.declared.options.Name.TheVariants.{Scaler, Size, Index, Fit, Budget, Ssrc, Seq}
-use Rattle.link_words.specs.declared.options.Name.TheVariants.{Picture, Tick, Rate, Pt, Frames, Seed, Count}
+use Rattle.link_words.specs.declared.options.Name.TheVariants.{Picture, Tick, Rate, Aspect, Colour, Pt}
+use Rattle.link_words.specs.declared.options.Name.TheVariants.{Frames, Seed, Count}
 use Rattle.link_words.specs.declared.options.Name.TheVariants.{Check, Window, Workers, Packets, Pcap}
 use Rattle.link_words.specs.declared.options.Name.TheVariants.{Port, Sessions, Pace, To, At, Every}
 use Rattle.link_words.specs.declared.options.Name.TheVariants.{Reporter, Cname, BySender, Ntp, Idle}
@@ -88,8 +90,28 @@ frames_in_seconds ratio = record { ticks = 90000 * ratio.1; frames = ratio.0 }
 -- that many frames in that many seconds where it is given, and else so many ticks for each frame
 abbrev pub rate_of : List (List ℕ) → FrameRate
 rate_of words = unwrap_or
-    (option_map frames_in_seconds (ratio_written (value_of words Rate)))
+    (option_map frames_in_seconds (ratio_written 4294967295 (value_of words Rate)))
     (record { ticks = given words Tick; frames = 1 })
+
+-- the number of a colour specification, where it is given
+abbrev pub colour_of : List (List ℕ) → Option ℕ
+colour_of words = if is_given words Colour then Some (given words Colour) else None
+
+-- what a header tells of how frames are shown: their rate where it is given, and what is given beside it
+abbrev pub told_with : List (List ℕ) → ℕ × ℕ → Told
+told_with words rate = record {
+  rate = rate;
+  aspect = ratio_written 65535 (value_of words Aspect);
+  colour = colour_of words;
+}
+
+abbrev pub told_by : List (List ℕ) → Option Told
+told_by words = option_map (told_with words) (ratio_written 4294967295 (value_of words Rate))
+
+-- the joint test of it: what is given beside a rate wants one
+abbrev pub tells_whole : List (List ℕ) → Bool
+tells_whole words =
+    is_given words Rate || not (is_given words Aspect || is_given words Colour)
 
 -- ---- settings without their facts
 
@@ -132,6 +154,7 @@ sending_of words =
       picture = given words Picture;
       rate = rate_of words;
       pt = given words Pt;
+      told = told_by words;
     }
 
 -- the joint tests of a sender
@@ -144,7 +167,8 @@ sending_fits s =
 
 -- what a sender is set to, where its settings go together
 unfoldable pub sender : List (List ℕ) → Option Sending
-sender words = if sending_fits (sending_of words) then Some (sending_of words) else None
+sender words =
+    if sending_fits (sending_of words) && tells_whole words then Some (sending_of words) else None
 
 abbrev pub generating_of : List (List ℕ) → Generating
 generating_of words = record {

@@ -1,6 +1,7 @@
 ghost use Rattle.std.specs.Prelude.{◌≡◌, ◌<◌, ◌≤◌, ◌%◌, ◌-◌, length, nat_lt, is_some, position, IfSome, ◌==◌};
 ghost use Rattle.std.specs.Prelude.{IsTrue, IsAscii};
 ghost use Rattle.std.specs.List.{list_all};
+ghost use Rattle.vc_types.specs.Presentations.{ratio_within};
 ghost use Rattle.link_words.specs.Options.{option_row, names_of, name_in};
 ghost use Rattle.link_words.specs.Grammar.{word_at, mark_of, pair_written, sampling_written};
 ghost use Rattle.link_words.specs.Grammar.{ratio_written, slices_written};
@@ -51,7 +52,7 @@ fn mark_of(mark: u8, word: &[u8]) -> usize
 #[tactic(auto, using(crate::proofs::Slices::drop_held), unfolding(crate::specs::Grammar::pair_written))]
 fn pair_written(mark: u8, high: u32, word: &[u8]) -> Option<(u32, u32)>
     ensures value { result ≡ pair_written mark high word.now }
-    ensures range { IfSome result (λ pair. (1 ≤ pair.0) × (1 ≤ pair.1)) }
+    ensures range { IfSome result (λ pair. IsTrue (ratio_within high pair)) }
 {
     let between = mark_of(mark, word);
     let (first, _) = word.split_at(between);
@@ -68,12 +69,12 @@ pub(crate) fn slices_written(word: &[u8]) -> Option<(u32, u32)>
     pair_written(b'x', 65535, word)
 }
 
-// So many frames in so many seconds, with `:` between.
-pub(crate) fn ratio_written(word: &[u8]) -> Option<(u32, u32)>
-    ensures value { result ≡ ratio_written word.now }
-    ensures range { IfSome result (λ pair. (1 ≤ pair.0) × (1 ≤ pair.1)) }
+// A numerator and a denominator of 1 to a greatest, with `:` between.
+pub(crate) fn ratio_written(high: u32, word: &[u8]) -> Option<(u32, u32)>
+    ensures value { result ≡ ratio_written high word.now }
+    ensures range { IfSome result (λ pair. IsTrue (ratio_within high pair)) }
 {
-    pair_written(b':', 4294967295, word)
+    pair_written(b':', high, word)
 }
 
 #[tactic(auto, using(crate::proofs::Texts::all_ascii))]
@@ -101,7 +102,7 @@ fn accepts(values: Values, word: &str) -> bool
             { number_within(word.as_bytes(), low, high).is_some() }
         Values::Subsampling => sampling_written(word).is_some(),
         Values::Pair => slices_written(word.as_bytes()).is_some(),
-        Values::Ratio => ratio_written(word.as_bytes()).is_some(),
+        Values::Ratio(high) => ratio_written(high, word.as_bytes()).is_some(),
         Values::Address => !word.is_empty(),
         Values::Text => is_text(word),
     }

@@ -196,10 +196,7 @@ fn push_values(page: &mut String, values: Values) -> Result<(), NoMemory> {
             page,
             "two of 1 to 65535 with x between; 16 by 8 samples each by default",
         ),
-        Values::Ratio => push_words(
-            page,
-            "two of 1 to 4294967295 with : between; none by default",
-        ),
+        Values::Ratio(high) => push_ratio(page, high),
         Values::Address => push_words(page, "an address, required"),
         Values::Text => push_words(page, "1 to 255 bytes of ASCII, vc2link by default"),
     }
@@ -207,6 +204,11 @@ fn push_values(page: &mut String, values: Values) -> Result<(), NoMemory> {
 
 fn push_number(page: &mut String, low: u32, high: u32, default: u32) -> Result<(), NoMemory> {
     write!(page, "{low} to {high}, {default} by default")?;
+    Ok(())
+}
+
+fn push_ratio(page: &mut String, high: u32) -> Result<(), NoMemory> {
+    write!(page, "two of 1 to {high} with : between; none by default")?;
     Ok(())
 }
 

@@ -1,16 +1,18 @@
-ghost use Rattle.std.specs.Prelude.{◌≡◌, ◌<◌, ◌≤◌, length, IsTrue};
-ghost use Rattle.vc_types.specs.Settings.{choice_fits};
+ghost use Rattle.std.specs.Prelude.{◌≡◌, ◌<◌, ◌≤◌, length, IsTrue, true};
+ghost use Rattle.std.specs.Option.{option_map_or};
+ghost use Rattle.vc_types.specs.Presentations.{told_fits};
+ghost use Rattle.vc_types.specs.Settings.{choice_fits, within};
 ghost use Rattle.link_words.specs.Grammar.{IsText};
 ghost use Rattle.link_words.specs.Options.{option_row, is_required, HasDefault, IsInRange};
 ghost use Rattle.link_words.specs.Settings.{stands_at, place_of, is_given, value_of};
 ghost use Rattle.link_words.specs.Settings.{number_meant, given, is_set, text_given, choice_of, lacks};
-ghost use Rattle.link_words.specs.Settings.{pcap_of, rate_of};
+ghost use Rattle.link_words.specs.Settings.{colour_of, pcap_of, rate_of, tells_whole, told_by};
 ghost use Rattle.vc_types.specs.Rates.{rate_view};
 
 use crate::grammar::{is_text, ratio_written, word_at};
 use crate::numbers::number_within;
 use crate::options::{Name, Values, option_row};
-use vc_types::{FrameRate, IndexChoice, Words};
+use vc_types::{FrameRate, IndexChoice, Told, Words};
 
 fn stands_at(words: &Words, name: Name, place: usize) -> bool
     requires { place < length words.now }
@@ -116,13 +118,48 @@ pub(crate) fn rate_of(words: &Words) -> FrameRate
     requires { 0 < length words.now }
     ensures { rate_view result ≡ rate_of words.now }
 {
-    match ratio_written(value_of(words, Name::Rate).as_bytes()) {
+    match ratio_written(u32::MAX, value_of(words, Name::Rate).as_bytes()) {
         Some((frames, seconds)) => FrameRate {
             ticks: 90_000 * u64::from(seconds),
             frames,
         },
         None => FrameRate::of_ticks(given(words, Name::Tick)),
     }
+}
+
+// What a header tells of how frames are shown: their rate where it is given, and what is given beside it.
+pub(crate) fn told_by(words: &Words) -> Option<Told>
+    requires { 0 < length words.now }
+    ensures value { result ≡ told_by words.now }
+    ensures fits { IsTrue (option_map_or told_fits result true) }
+{
+    let rate = ratio_written(u32::MAX, value_of(words, Name::Rate).as_bytes())?;
+    Some(Told {
+        rate,
+        aspect: ratio_written(65535, value_of(words, Name::Aspect).as_bytes()),
+        colour: colour_of(words),
+    })
+}
+
+// The number of a colour specification, where it is given.
+fn colour_of(words: &Words) -> Option<u8>
+    requires { 0 < length words.now }
+    ensures value { result ≡ colour_of words.now }
+    ensures known { IsTrue (option_map_or (within 1 7) result true) }
+{
+    if is_given(words, Name::Colour) {
+        Some(given(words, Name::Colour) as u8)
+    } else {
+        None
+    }
+}
+
+// What is given beside a rate wants one.
+pub(crate) fn tells_whole(words: &Words) -> bool
+    requires { 0 < length words.now }
+    ensures { result ≡ tells_whole words.now }
+{
+    is_given(words, Name::Rate) || !(is_given(words, Name::Aspect) || is_given(words, Name::Colour))
 }
 
 // The port of the datagrams in a pcap file, where the input is one.

@@ -57,7 +57,7 @@ pub(crate) const COMMANDS: [(Command, &str); 13] = [
 ];
 
 /// The options in the order of the page, each with what it means.
-pub(crate) const NAMES: [(Name, &str); 40] = [
+pub(crate) const NAMES: [(Name, &str); 42] = [
     (Name::Width, "samples in a row of luma"),
     (Name::Height, "rows of luma in a frame"),
     (Name::Sampling, "4:4:4, 4:2:2 or 4:2:0"),
@@ -105,6 +105,14 @@ pub(crate) const NAMES: [(Name, &str); 40] = [
     (
         Name::Rate,
         "so many frames in so many seconds: 60000:1001 is 59.94 a second; not with --tick",
+    ),
+    (
+        Name::Aspect,
+        "the width of a pixel over its height, which the header says beside --rate; only with it",
+    ),
+    (
+        Name::Colour,
+        "1: 525 lines; 2: 625; 3: HDTV; 4: D-Cinema; 5: UHDTV; 6: PQ; 7: HLG; as --aspect, only with --rate",
     ),
     (Name::Pt, "the payload type in RTP"),
     (Name::Frames, "frames at most"),

@@ -2,10 +2,10 @@ ghost use Rattle.std.specs.Prelude.{◌≡◌};
 ghost use Rattle.link_words.specs.Options.{command_of, names_of, option_row, name_in, is_required};
 
 use Name::{
-    At, Budget, BySender, Check, Cname, Count, Depth, Every, Fields, Fit, Frames, Height, Idle,
-    Index, Ntp, Pace, Packets, Pcap, Picture, Port, Prefix, Pt, Range, Rate, Reporter, Sampling,
-    Scaler, Seed, Seq, Sessions, Size, Slices, Ssrc, Tick, To, Top, Wavelet, Width, Window,
-    Workers,
+    Aspect, At, Budget, BySender, Check, Cname, Colour, Count, Depth, Every, Fields, Fit, Frames,
+    Height, Idle, Index, Ntp, Pace, Packets, Pcap, Picture, Port, Prefix, Pt, Range, Rate,
+    Reporter, Sampling, Scaler, Seed, Seq, Sessions, Size, Slices, Ssrc, Tick, To, Top, Wavelet,
+    Width, Window, Workers,
 };
 use Values::{Address, Number, Optional, Pair, Ratio, Required, Subsampling, Text};
 
@@ -51,6 +51,8 @@ pub(crate) enum Name {
     Picture,
     Tick,
     Rate,
+    Aspect,
+    Colour,
     Pt,
     Frames,
     Seed,
@@ -83,9 +85,9 @@ pub(crate) enum Values {
     Required(u32, u32),
     // 444, 422 or 420.
     Subsampling,
-    // Two numbers with `x` between, and two with `:`.
+    // Two numbers with `x` between, and two of 1 to a greatest with `:` between.
     Pair,
-    Ratio,
+    Ratio(u32),
     // Any word that is not empty; it has to be given.
     Address,
     // A word of 1 to 255 bytes, all of them ASCII.
@@ -137,7 +139,9 @@ pub(crate) fn option_row(name: Name) -> (&'static str, Values)
         Seq => ("--seq", Number(0, 4294967295, 0)),
         Picture => ("--picture", Number(0, 4294967295, 0)),
         Tick => ("--tick", Number(0, 4294967295, 3600)),
-        Rate => ("--rate", Ratio),
+        Rate => ("--rate", Ratio(4294967295)),
+        Aspect => ("--aspect", Ratio(65535)),
+        Colour => ("--colour", Optional(1, 7)),
         Pt => ("--pt", Number(0, 127, 96)),
         Frames => ("--frames", Number(1, 4294967295, 4294967295)),
         Seed => ("--seed", Number(0, 4294967295, 0)),
@@ -169,18 +173,19 @@ pub(crate) fn names_of(command: Command) -> &'static [Name]
         Command::Decode | Command::Unpack => &[Window, Workers, Packets, Pcap, Port],
         Command::Encode => &[
             Width, Height, Sampling, Range, Fields, Top, Wavelet, Depth, Slices, Prefix, Scaler,
-            Size, Index, Fit, Budget, Ssrc, Seq, Picture, Tick, Rate, Pt, Frames, Workers,
+            Size, Index, Fit, Budget, Ssrc, Seq, Picture, Tick, Rate, Aspect, Colour, Pt, Frames,
+            Workers,
         ],
         Command::Send => &[
             Width, Height, Sampling, Range, Fields, Top, Wavelet, Depth, Slices, Prefix, Scaler,
-            Size, Index, Fit, Budget, Ssrc, Seq, Picture, Tick, Rate, Pt, Frames, Workers, Pace,
-            To,
+            Size, Index, Fit, Budget, Ssrc, Seq, Picture, Tick, Rate, Aspect, Colour, Pt, Frames,
+            Workers, Pace, To,
         ],
         Command::Recv => &[Window, Workers, Packets, Sessions, Idle, At],
         Command::Loop => &[
             Width, Height, Sampling, Range, Fields, Top, Wavelet, Depth, Slices, Prefix, Scaler,
-            Size, Index, Fit, Budget, Ssrc, Seq, Picture, Tick, Rate, Pt, Frames, Window, Workers,
-            At,
+            Size, Index, Fit, Budget, Ssrc, Seq, Picture, Tick, Rate, Aspect, Colour, Pt, Frames,
+            Window, Workers, At,
         ],
         Command::Pack => &[Packets, Size, Ssrc, Pt, Seq, Tick, Rate],
         Command::Play => &[Packets],

@@ -5,7 +5,7 @@ ghost use Rattle.link_words.specs.Settings.{given_sampling, given_slices, genera
 
 use crate::grammar::{sampling_written, slices_written};
 use crate::joint::{can_be_sent, default_across, default_down, first_picture_fits, luma_fits};
-use crate::lookup::{choice_of, given, is_set, rate_of, value_of};
+use crate::lookup::{choice_of, given, is_set, rate_of, tells_whole, told_by, value_of};
 use crate::options::Name;
 use vc_types::{GenSettings, Sampling, SendSettings, Words, dimensions_fit, slices_fit};
 
@@ -45,7 +45,8 @@ pub(crate) fn sender(words: &Words) -> Option<SendSettings>
     let fits = dimensions_fit(width, height, sampling, fields)
         && slices_fit(slices_x, slices_y)
         && luma_fits(width, height, fields, depth)
-        && first_picture_fits(fields, picture);
+        && first_picture_fits(fields, picture)
+        && tells_whole(words);
     if !fits {
         return None;
     }
@@ -69,6 +70,7 @@ pub(crate) fn sender(words: &Words) -> Option<SendSettings>
         picture,
         rate: rate_of(words),
         pt: given(words, Name::Pt) as u8,
+        told: told_by(words),
     })
 }
 

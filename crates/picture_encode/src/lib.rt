@@ -19,6 +19,6 @@ mod transform;
 pub use chooser::Chooser;
 pub use grids::PictureGrids;
 pub use picture::{encode_picture, encode_picture_joined};
-pub use plan::{header_of, plan_of};
+pub use plan::{header_of, plan_of, presentation_of};
 pub use refusal::SliceRefusal;
 pub use run::EncodedRun;

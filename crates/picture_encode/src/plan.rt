@@ -1,6 +1,6 @@
 ghost use Rattle.std.specs.Prelude.{◌≡◌, ◌≤◌, [], unwrap_or, IsTrue};
-ghost use Rattle.link_model.specs.SendingPictures.{sent_sequence, sent_parameters};
-ghost use Rattle.vc_types.specs.HeaderSpelling.{encoder_base};
+ghost use Rattle.link_model.specs.SendingPictures.{sent_sequence, sent_presentation, sent_parameters};
+ghost use Rattle.vc_types.specs.HeaderSpelling.{encoder_base, IsPresentation};
 ghost use Rattle.vc_types.specs.Limits.{matrix_fits, shape_fits};
 ghost use Rattle.vc_types.specs.Quantisation.{default_matrix, filled_matrix, used_entries};
 ghost use Rattle.vc_types.specs.SenderSettings.{sending_view};
@@ -9,7 +9,7 @@ ghost use Rattle.vc_types.specs.TransformParameters.{parameters_of};
 ghost use Rattle.vc_types.specs.Video.{range_of};
 
 use vc_quant::default_matrix;
-use vc_types::{Header, Plan, SendSettings, Shape, SignalRange};
+use vc_types::{CodedPresentation, Header, Plan, SendSettings, Shape, SignalRange};
 
 /// The sequence header of a sender: version 3.0, level 0, base video format 14 with the top field
 /// first and else 0, interlaced exactly with field coding.
@@ -29,6 +29,18 @@ pub fn header_of(s: &SendSettings) -> Header
         top_first: s.top,
         range: signal_range(s.range),
         fields: s.fields,
+    }
+}
+
+/// What the sequence header of a sender codes of how its frames are shown.
+#[tactic(auto, unfolding(link_model::specs::SendingPictures::sent_presentation))]
+pub fn presentation_of(s: &SendSettings) -> CodedPresentation
+    ensures value { result ≡ sent_presentation (sending_view s.now) }
+    ensures coded { IsPresentation result }
+{
+    match s.told {
+        Some(told) => told.presentation(s.width, s.height),
+        None => CodedPresentation::nothing(),
     }
 }
 

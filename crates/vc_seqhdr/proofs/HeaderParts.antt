@@ -1,8 +1,13 @@
--- The parts of a header that are written one after another are the header.
-use Rattle.std.proofs.Common.{◌≡◌, Bool, true, false, List, [], ◌∷◌, ◌++◌, append_assoc}
+-- Parts of a header that are written one after another.
+use Rattle.std.proofs.Common.{◌≡◌, Bool, List, [], ◌∷◌, ◌++◌, refl, sym, ap, ◌∙◌, append_assoc}
 use Rattle.vc_types.specs.Fields.{joined}
 
-pub whole_header : (major minor base width height sampling fields range : List Bool) →
-    (joined (major ∷ minor ∷ major ∷ minor ∷ base ∷ []) ++ joined ((true ∷ joined (width ∷ height ∷ [])) ∷ (true ∷ sampling) ∷ (true ∷ fields) ∷ [])) ++ joined ((false ∷ []) ∷ (false ∷ []) ∷ (false ∷ []) ∷ (true ∷ range) ∷ (false ∷ []) ∷ fields ∷ [])
-    ≡ joined (major ∷ minor ∷ major ∷ minor ∷ base ∷ (true ∷ joined (width ∷ height ∷ [])) ∷ (true ∷ sampling) ∷ (true ∷ fields) ∷ (false ∷ []) ∷ (false ∷ []) ∷ (false ∷ []) ∷ (true ∷ range) ∷ (false ∷ []) ∷ fields ∷ [])
-whole_header major minor base width height sampling fields range = simp append_assoc
+pub joined-append : (some more : List (List Bool)) → joined (some ++ more) ≡ joined some ++ joined more
+joined-append [] more = refl
+joined-append (part ∷ some) more = ap (λ (l : List Bool). part ++ l) (joined-append some more) ∙ sym (append_assoc part (joined some) (joined more))
+
+pub joined_four : (a b c d : List (List Bool)) → ((joined a ++ joined b) ++ joined c) ++ joined d ≡ joined (((a ++ b) ++ c) ++ d)
+joined_four a b c d =
+    ap (λ (l : List Bool). (l ++ joined c) ++ joined d) (sym (joined-append a b))
+    ∙ ap (λ (l : List Bool). l ++ joined d) (sym (joined-append (a ++ b) c))
+    ∙ sym (joined-append ((a ++ b) ++ c) d)

@@ -1,7 +1,8 @@
 ghost use Rattle.std.specs.Prelude.{◌≡◌, ◌≤◌, IsTrue};
+ghost use Rattle.vc_types.specs.Presentations.{area, base_presentation, presentation_of, uncoded_colour};
 ghost use Rattle.vc_types.specs.Video.{format_of, range_of, excursion_fits};
 
-use vc_types::{Sampling, SignalRange};
+use vc_types::{Choice, CleanArea, Colour, Presentation, Sampling, SignalRange};
 
 /// A base video format: what a header says where its parts aren't coded.
 #[derive(Clone, Copy)]
@@ -92,5 +93,68 @@ pub fn preset_range(index: u32) -> SignalRange
         luma_excursion,
         colour_offset,
         colour_excursion,
+    }
+}
+
+// A clean area that begins so many samples from the left.
+fn area(width: u32, height: u32, left: u32) -> CleanArea
+    ensures { result ≡ area width height left 0 }
+{
+    CleanArea {
+        width,
+        height,
+        left,
+        top: 0,
+    }
+}
+
+// By the indices of a frame rate and of a pixel aspect ratio.
+fn shown(rate: u32, aspect: u32, clean_area: CleanArea, colour: Choice<Colour>) -> Presentation
+    ensures { result ≡ base_presentation rate aspect clean_area colour }
+{
+    Presentation {
+        frame_rate: Choice::Preset(rate),
+        aspect_ratio: Choice::Preset(aspect),
+        clean_area,
+        colour,
+    }
+}
+
+// HDTV in all its parts.
+fn uncoded_colour() -> Colour
+    ensures { result ≡ uncoded_colour }
+{
+    Colour {
+        primaries: None,
+        matrix: None,
+        transfer: None,
+    }
+}
+
+/// How the frames of a base video format are shown.
+#[tactic(auto, unfolding(vc_types::specs::Presentations::presentation_of))]
+pub fn presentation_of(base: u32) -> Presentation
+    requires { base ≤ 16 }
+    ensures { result ≡ presentation_of base }
+{
+    use Choice::{Custom, Preset};
+    match base {
+        0 => shown(1, 1, area(640, 480, 0), Custom(uncoded_colour())),
+        1 => shown(9, 2, area(176, 120, 0), Preset(1)),
+        2 => shown(10, 3, area(176, 144, 0), Preset(2)),
+        3 => shown(9, 2, area(352, 240, 0), Preset(1)),
+        4 => shown(10, 3, area(352, 288, 0), Preset(2)),
+        5 => shown(9, 2, area(704, 480, 0), Preset(1)),
+        6 => shown(10, 3, area(704, 576, 0), Preset(2)),
+        7 => shown(4, 2, area(704, 480, 8), Preset(1)),
+        8 => shown(3, 3, area(704, 576, 8), Preset(2)),
+        9 => shown(7, 1, area(1280, 720, 0), Preset(3)),
+        10 => shown(6, 1, area(1280, 720, 0), Preset(3)),
+        11 => shown(4, 1, area(1920, 1080, 0), Preset(3)),
+        12 => shown(3, 1, area(1920, 1080, 0), Preset(3)),
+        13 => shown(7, 1, area(1920, 1080, 0), Preset(3)),
+        14 => shown(6, 1, area(1920, 1080, 0), Preset(3)),
+        15 => shown(2, 1, area(2048, 1080, 0), Preset(4)),
+        _ => shown(2, 1, area(4096, 2160, 0), Preset(4)),
     }
 }

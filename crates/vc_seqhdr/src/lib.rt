@@ -8,6 +8,6 @@ mod parts;
 mod reader;
 mod writer;
 
-pub use reader::{read_header, read_header_of};
+pub use reader::{WholeHeader, read_header, read_header_of, read_whole_header_of};
 pub use vc_types::HeaderRefusal;
-pub use writer::write_header;
+pub use writer::{write_header, write_header_with};

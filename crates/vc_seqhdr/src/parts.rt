@@ -10,7 +10,9 @@ ghost use Rattle.vc_seqhdr.specs.Formats.{format_view};
 use crate::fields::{flag, index, number};
 use crate::formats::{Format, preset_range};
 use vc_bits::BitReader;
-use vc_types::{HeaderRefusal, LOW_DELAY_PROFILE, Sampling, SignalRange};
+use vc_types::{
+    Choice, CleanArea, Colour, HeaderRefusal, LOW_DELAY_PROFILE, Sampling, SignalRange,
+};
 
 fn is_version_of(wanted: u8, major: u32) -> bool
     ensures { result ≡ is_version_of wanted major }
@@ -84,30 +86,41 @@ pub fn scan_format(format: &Format, r: &mut BitReader) -> Result<bool, HeaderRef
 
 /// A frame rate or a pixel aspect ratio.
 #[tactic(auto, unfolding(vc_types::specs::SequenceHeader::ratio))]
-pub fn ratio(r: &mut BitReader) -> Result<(), HeaderRefusal>
-    ensures { Gives (λ x. x) result r.new.left (ratio r.old.left) }
+pub fn ratio(
+    default: Choice<(u32, u32)>,
+    r: &mut BitReader,
+) -> Result<Choice<(u32, u32)>, HeaderRefusal>
+    ensures { Gives (λ x. x) result r.new.left (ratio default r.old.left) }
 {
-    if flag(r)? {
-        let preset = number(r)?;
-        if preset == 0 {
-            let _numerator = number(r)?;
-            let _denominator = number(r)?;
-        }
+    if !flag(r)? {
+        return Ok(default);
     }
-    Ok(())
+    let preset = number(r)?;
+    if preset == 0 {
+        let numerator = number(r)?;
+        let denominator = number(r)?;
+        return Ok(Choice::Custom((numerator, denominator)));
+    }
+    Ok(Choice::Preset(preset))
 }
 
 #[tactic(auto, unfolding(vc_types::specs::SequenceHeader::clean_area))]
-pub fn clean_area(r: &mut BitReader) -> Result<(), HeaderRefusal>
-    ensures { Gives (λ x. x) result r.new.left (clean_area r.old.left) }
+pub fn clean_area(default: CleanArea, r: &mut BitReader) -> Result<CleanArea, HeaderRefusal>
+    ensures { Gives (λ x. x) result r.new.left (clean_area default r.old.left) }
 {
-    if flag(r)? {
-        let _width = number(r)?;
-        let _height = number(r)?;
-        let _left = number(r)?;
-        let _top = number(r)?;
+    if !flag(r)? {
+        return Ok(default);
     }
-    Ok(())
+    let width = number(r)?;
+    let height = number(r)?;
+    let left = number(r)?;
+    let top = number(r)?;
+    Ok(CleanArea {
+        width,
+        height,
+        left,
+        top,
+    })
 }
 
 #[tactic(auto, unfolding(vc_types::specs::SequenceHeader::excursion))]
@@ -161,26 +174,35 @@ pub fn signal_range(format: &Format, r: &mut BitReader) -> Result<SignalRange, H
 
 /// Colour primaries, a colour matrix or a transfer function.
 #[tactic(auto, unfolding(vc_types::specs::SequenceHeader::colour_part))]
-fn colour_part(r: &mut BitReader) -> Result<(), HeaderRefusal>
+fn colour_part(r: &mut BitReader) -> Result<Option<u32>, HeaderRefusal>
     ensures { Gives (λ x. x) result r.new.left (colour_part r.old.left) }
 {
-    if flag(r)? {
-        let _preset = number(r)?;
+    if !flag(r)? {
+        return Ok(None);
     }
-    Ok(())
+    Ok(Some(number(r)?))
 }
 
 #[tactic(auto, unfolding(vc_types::specs::SequenceHeader::colour_specification))]
-pub fn colour_specification(r: &mut BitReader) -> Result<(), HeaderRefusal>
-    ensures { Gives (λ x. x) result r.new.left (colour_specification r.old.left) }
+pub fn colour_specification(
+    default: Choice<Colour>,
+    r: &mut BitReader,
+) -> Result<Choice<Colour>, HeaderRefusal>
+    ensures { Gives (λ x. x) result r.new.left (colour_specification default r.old.left) }
 {
-    if flag(r)? {
-        let preset = number(r)?;
-        if preset == 0 {
-            colour_part(r)?;
-            colour_part(r)?;
-            colour_part(r)?;
-        }
+    if !flag(r)? {
+        return Ok(default);
     }
-    Ok(())
+    let preset = number(r)?;
+    if preset != 0 {
+        return Ok(Choice::Preset(preset));
+    }
+    let primaries = colour_part(r)?;
+    let matrix = colour_part(r)?;
+    let transfer = colour_part(r)?;
+    Ok(Choice::Custom(Colour {
+        primaries,
+        matrix,
+        transfer,
+    }))
 }

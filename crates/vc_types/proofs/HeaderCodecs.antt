@@ -6,8 +6,14 @@ use Rattle.std.proofs.lemmas.Bool.Decides.{nat_tests}
 use Rattle.vc_types.specs.Bits.{digit_of}
 use Rattle.vc_types.specs.Codes.{uint_bits}
 use Rattle.vc_types.specs.Fields.{Field, ◌>>=◌, give, flagged_bits, flagged_value, pair_bits, IsCodec, and_then}
-use Rattle.vc_types.specs.HeaderSpelling.{Choice, Preset, Custom, choice_bits, sampling_index, CleanArea, area_bits, range_bits, Colour, colour_bits, HeaderSpelling, header_bits_of, header_bits, chosen_range, spelled_header, IsNumber, IsChoice, ArePair, IsArea, IsRange, IsColour, IsHeaderOf, IsHeader}
-use Rattle.vc_types.specs.SequenceHeader.{HeaderField, header_number, index, part, is_version_of, major_version, profile, base_video_format, frame_size, sampling_by_index, colour_difference_sampling, scan_format, ratio, clean_area, excursion, custom_signal_range, signal_range_of, colour_part, colour_specification, picture_coding_mode, sequence_header_of, sequence_header}
+use Rattle.vc_types.specs.HeaderSpelling.{choice_bits, sampling_index, area_bits, range_bits, colour_bits, HeaderSpelling, header_bits_of, header_bits, chosen_range, spelled_header, spelled_whole, IsNumber, IsChoice, ArePair, IsArea, IsRange, IsColour, IsHeaderOf, IsHeader}
+use Rattle.vc_types.specs.Presentations.{area, presentation_of}
+use Rattle.vc_types.specs.declared.presentation.Choice.{Choice}
+use Rattle.vc_types.specs.declared.presentation.Choice.TheVariants.{Preset, Custom}
+use Rattle.vc_types.specs.declared.presentation.CleanArea.{CleanArea}
+use Rattle.vc_types.specs.declared.presentation.Colour.{Colour}
+use Rattle.vc_types.specs.declared.presentation.Presentation.{Presentation}
+use Rattle.vc_types.specs.SequenceHeader.{Sequence, HeaderField, header_number, index, part, is_version_of, major_version, profile, base_video_format, frame_size, sampling_by_index, colour_difference_sampling, scan_format, ratio, clean_area, excursion, custom_signal_range, signal_range_of, colour_part, colour_specification, picture_coding_mode, whole_header_of, sequence_header_of, sequence_header}
 use Rattle.vc_types.specs.Video.{BaseFormat, format_of, range_of, signal_range, excursion_fits, dimensions_fit}
 use Rattle.vc_types.specs.declared.refusal.HeaderRefusal.{HeaderRefusal}
 use Rattle.vc_types.specs.declared.refusal.HeaderRefusal.TheVariants as refusals
@@ -142,31 +148,32 @@ scan_is : (base : BaseFormat) → IsCodec (scan_format base) (flagged_bits (λ b
 unfolding scan_format
 scan_is base = plain_flag_codec refusals.Short base.interlaced (bit_is refusals.ScanIndex)
 
--- what a part that isn't kept stands for
-abbrev nothing : {A : Type 0} → A → Unit {0}
-nothing a = tt
+choice_same : {A : Type 0} (c : Choice A) → c ≡ choice_value Preset Custom c
+choice_same (Preset index) = refl
+choice_same (Custom a) = refl
 
--- a part that isn't kept, behind its flag
-unkept : {A : Type 0} {field : HeaderField (Unit {0})} {bits : A → List Bool} {value : A → Unit {0}} {IsRead : A → Type 0} → IsCodec field bits value IsRead → IsCodec (part tt field) (flagged_bits bits) nothing (λ a. IfSome a IsRead)
-unkept {A = A} {bits = bits} {IsRead = IsRead} c = retold (flagged_bits bits) nothing (λ a. IfSome a IsRead) (λ (a : Option A). a) (λ (a : Option A). a)
-    (λ a ok. (ok, refl, refl))
-    (λ a ok. (ok, refl, refl))
-    (behind_flag_codec refusals.Short tt c)
+-- an index, or what is coded in its place, as they stand
+choice_is : {A : Type 0} {custom : HeaderField (Choice A)} {bits : A → List Bool} {IsCustom : A → Type 0} → IsCodec custom bits (λ a. Custom a) IsCustom
+    → IsCodec (header_number >>= λ index. cond (eqb index 0) custom (give (Preset index))) (choice_bits bits) (λ c. c) (IsChoice (2 ^ 32 - 1) IsCustom)
+choice_is {A = A} {bits = bits} {IsCustom = IsCustom} c = retold (choice_bits bits) (λ (c : Choice A). c) (IsChoice (2 ^ 32 - 1) IsCustom) (λ (c : Choice A). c) (λ (c : Choice A). c)
+    (λ a ok. (ok, choice_same a, refl))
+    (λ a ok. (ok, sym (choice_same a), refl))
+    (choice_codec (2 ^ 32 - 1) (λ (n : ℕ). Preset n) number_is c)
 
-ratio_is : IsCodec ratio (flagged_bits (choice_bits pair_bits)) nothing (λ a. IfSome a (IsChoice (2 ^ 32 - 1) ArePair))
+ratio_is : (default : Choice (ℕ × ℕ)) → IsCodec (ratio default) (flagged_bits (choice_bits pair_bits)) (λ a. unwrap_or a default) (λ a. IfSome a (IsChoice (2 ^ 32 - 1) ArePair))
 unfolding ratio
-ratio_is = unkept (choice_codec (2 ^ 32 - 1) (λ n. tt) number_is
-    (retold pair_bits nothing ArePair (λ (a : ℕ × (ℕ × Unit {0})). (a.0, a.1.0)) (λ (p : ℕ × ℕ). (p.0, (p.1, tt)))
+ratio_is default = plain_flag_codec refusals.Short default (choice_is
+    (retold {X = Choice (ℕ × ℕ)} pair_bits (λ (p : ℕ × ℕ). Custom p) ArePair (λ (a : ℕ × (ℕ × Unit {0})). (a.0, a.1.0)) (λ (p : ℕ × ℕ). (p.0, (p.1, tt)))
     (λ a ok. ((ok.0, ok.1.0), refl, refl))
     (λ p ok. ((ok.0, (ok.1, tt)), refl, refl))
-    (then_codec number_is (λ (numerator : ℕ). then_codec number_is (λ (denominator : ℕ). give_codec tt)))))
+    (then_codec number_is (λ (numerator : ℕ). then_codec number_is (λ (denominator : ℕ). give_codec {X = Choice (ℕ × ℕ)} (Custom (numerator, denominator)))))))
 
-area_is : IsCodec clean_area (flagged_bits area_bits) nothing (λ a. IfSome a IsArea)
+area_is : (default : CleanArea) → IsCodec (clean_area default) (flagged_bits area_bits) (λ a. unwrap_or a default) (λ a. IfSome a IsArea)
 unfolding clean_area
-area_is = unkept (retold area_bits nothing IsArea (λ (a : ℕ × (ℕ × (ℕ × (ℕ × Unit {0})))). record { width = a.0; height = a.1.0; left = a.1.1.0; top = a.1.1.1.0 }) (λ (a : CleanArea). (a.width, (a.height, (a.left, (a.top, tt)))))
+area_is default = plain_flag_codec refusals.Short default (retold area_bits (λ (a : CleanArea). a) IsArea (λ (a : ℕ × (ℕ × (ℕ × (ℕ × Unit {0})))). area a.0 a.1.0 a.1.1.0 a.1.1.1.0) (λ (a : CleanArea). (a.width, (a.height, (a.left, (a.top, tt)))))
     (λ a ok. (record { width = ok.0; height = ok.1.0; left = ok.1.1.0; top = ok.1.1.1.0 }, refl, refl))
     (λ a ok. ((ok.width, (ok.height, (ok.left, (ok.top, tt)))), refl, refl))
-    (then_codec number_is (λ (width : ℕ). then_codec number_is (λ (height : ℕ). then_codec number_is (λ (left : ℕ). then_codec number_is (λ (top : ℕ). give_codec tt))))))
+    (then_codec number_is (λ (width : ℕ). then_codec number_is (λ (height : ℕ). then_codec number_is (λ (left : ℕ). then_codec number_is (λ (top : ℕ). give_codec (area width height left top)))))))
 
 excursion_is_number : (n : ℕ) → IsTrue (excursion_fits n) → IsNumber n
 excursion_is_number n fits = grind (arith, nat_tests)
@@ -196,17 +203,27 @@ range_is base = behind_flag_codec refusals.Short (range_of base.range) (retold (
     range_same (Preset index) = refl
     range_same (Custom r) = refl
 
-colour_part_is : IsCodec colour_part (flagged_bits uint_bits) nothing (λ a. IfSome a IsNumber)
+colour_part_is : IsCodec colour_part (flagged_bits uint_bits) (λ a. a) (λ a. IfSome a IsNumber)
 unfolding colour_part
-colour_part_is = unkept (mapped_codec (λ n. tt) number_is)
+colour_part_is = retold (flagged_bits uint_bits) (λ (a : Option ℕ). a) (λ a. IfSome a IsNumber) (λ (a : Option ℕ). a) (λ (a : Option ℕ). a)
+    (λ a ok. (ok, same a, refl))
+    (λ a ok. (ok, sym (same a), refl))
+    (behind_flag_codec refusals.Short None (mapped_codec Some number_is))
+  where
+    same : (a : Option ℕ) → a ≡ flagged_value None Some a
+    same None = refl
+    same (Some n) = refl
 
-colour_is : IsCodec colour_specification (flagged_bits (choice_bits colour_bits)) nothing (λ a. IfSome a (IsChoice (2 ^ 32 - 1) IsColour))
+abbrev parts_colour : Option ℕ → Option ℕ → Option ℕ → Colour
+parts_colour primaries matrix transfer = record { primaries = primaries; matrix = matrix; transfer = transfer }
+
+colour_is : (default : Choice Colour) → IsCodec (colour_specification default) (flagged_bits (choice_bits colour_bits)) (λ a. unwrap_or a default) (λ a. IfSome a (IsChoice (2 ^ 32 - 1) IsColour))
 unfolding colour_specification
-colour_is = unkept (choice_codec (2 ^ 32 - 1) (λ n. tt) number_is
-    (retold colour_bits nothing IsColour (λ (a : Option ℕ × (Option ℕ × (Option ℕ × Unit {0}))). record { primaries = a.0; matrix = a.1.0; transfer = a.1.1.0 }) (λ (c : Colour). (c.primaries, (c.matrix, (c.transfer, tt))))
+colour_is default = plain_flag_codec refusals.Short default (choice_is
+    (retold {X = Choice Colour} colour_bits (λ (c : Colour). Custom c) IsColour (λ (a : Option ℕ × (Option ℕ × (Option ℕ × Unit {0}))). parts_colour a.0 a.1.0 a.1.1.0) (λ (c : Colour). (c.primaries, (c.matrix, (c.transfer, tt))))
     (λ a ok. (record { primaries = ok.0; matrix = ok.1.0; transfer = ok.1.1.0 }, refl, refl))
     (λ c ok. ((ok.primaries, (ok.matrix, (ok.transfer, tt))), refl, refl))
-    (then_codec colour_part_is (λ (primaries : Unit {0}). then_codec colour_part_is (λ (matrix : Unit {0}). then_codec colour_part_is (λ (transfer : Unit {0}). give_codec tt))))))
+    (then_codec colour_part_is (λ (primaries : Option ℕ). then_codec colour_part_is (λ (matrix : Option ℕ). then_codec colour_part_is (λ (transfer : Option ℕ). give_codec {X = Choice Colour} (Custom (parts_colour primaries matrix transfer))))))))
 
 mode_is : IsCodec picture_coding_mode (λ b. uint_bits (digit_of b)) (λ b. b) (λ b. Unit {0})
 unfolding picture_coding_mode
@@ -228,10 +245,10 @@ anything None = tt
 anything (Some x) = tt
 
 -- What is read is spelled so, and what is spelled so is read, whatever follows.
-pub header_is_of : (p : ℕ) → IsNumber p
-    → IsCodec (sequence_header_of p) (header_bits_of p) spelled_header (IsHeaderOf p)
-unfolding sequence_header_of
-header_is_of p number = retold (header_bits_of p) spelled_header (IsHeaderOf p) parts_told parts_of
+pub whole_is_of : (p : ℕ) → IsNumber p
+    → IsCodec (whole_header_of p) (header_bits_of p) spelled_whole (IsHeaderOf p)
+unfolding whole_header_of
+whole_is_of p number = retold (header_bits_of p) spelled_whole (IsHeaderOf p) parts_told parts_of
     (λ a ok. (record { major = ok.0; minor = ok.1.0; level = ok.1.1.1.0; base = ok.1.1.1.1.0; size = ok.1.1.1.1.1.0; frame_rate = ok.1.1.1.1.1.1.1.1.0; aspect_ratio = ok.1.1.1.1.1.1.1.1.1.0; clean_area = ok.1.1.1.1.1.1.1.1.1.1.0; range = ok.1.1.1.1.1.1.1.1.1.1.1.0; colour = ok.1.1.1.1.1.1.1.1.1.1.1.1.0; dimensions = ok.1.1.1.1.1.1.1.1.1.1.1.1.1.1 }, refl, refl))
     (λ s ok. ((ok.major, (ok.minor, (tt, (ok.level, (ok.base, (ok.size, (anything s.sampling, (anything s.interlaced, (ok.frame_rate, (ok.aspect_ratio, (ok.clean_area, (ok.range, (ok.colour, (tt, ok.dimensions)))))))))))))), refl, refl))
     (then_codec (major_is p) (λ (major : ℕ).
@@ -242,25 +259,38 @@ header_is_of p number = retold (header_bits_of p) spelled_header (IsHeaderOf p) 
     then_codec (size_is (format_of base)) (λ (size : ℕ × ℕ).
     then_codec (sampling_is (format_of base)) (λ (sampling : Sampling).
     then_codec (scan_is (format_of base)) (λ (interlaced : Bool).
-    then_codec ratio_is (λ (frame_rate : Unit {0}).
-    then_codec ratio_is (λ (aspect_ratio : Unit {0}).
-    then_codec area_is (λ (area : Unit {0}).
+    then_codec (ratio_is (presentation_of base).frame_rate) (λ (frame_rate : Choice (ℕ × ℕ)).
+    then_codec (ratio_is (presentation_of base).aspect_ratio) (λ (aspect_ratio : Choice (ℕ × ℕ)).
+    then_codec (area_is (presentation_of base).clean_area) (λ (clean_area : CleanArea).
     then_codec (range_is (format_of base)) (λ (range : SignalRange).
-    then_codec colour_is (λ (colour : Unit {0}).
+    then_codec (colour_is (presentation_of base).colour) (λ (colour : Choice Colour).
     then_codec mode_is (λ (fields : Bool).
-    give_if_codec (dimensions_fit size.0 size.1 sampling fields) (record {
-      major = major;
-      minor = minor;
-      level = level;
-      base = base;
-      width = size.0;
-      height = size.1;
-      sampling = sampling;
-      interlaced = interlaced;
-      top_first = (format_of base).top_first;
-      range = range;
-      fields = fields;
-    }) refusals.Dimensions)))))))))))))))
+    give_if_codec {X = Sequence × Presentation} (dimensions_fit size.0 size.1 sampling fields) (
+      record {
+        major = major;
+        minor = minor;
+        level = level;
+        base = base;
+        width = size.0;
+        height = size.1;
+        sampling = sampling;
+        interlaced = interlaced;
+        top_first = (format_of base).top_first;
+        range = range;
+        fields = fields;
+      },
+      record {
+        frame_rate = frame_rate;
+        aspect_ratio = aspect_ratio;
+        clean_area = clean_area;
+        colour = colour;
+      },
+    ) refusals.Dimensions)))))))))))))))
+
+pub header_is_of : (p : ℕ) → IsNumber p
+    → IsCodec (sequence_header_of p) (header_bits_of p) spelled_header (IsHeaderOf p)
+unfolding sequence_header_of
+header_is_of p number = mapped_codec {X = Sequence × Presentation} (λ read. read.0) (whole_is_of p number)
 
 pub header_is : IsCodec sequence_header header_bits spelled_header IsHeader
 header_is = header_is_of 3 (lit≤ tt)

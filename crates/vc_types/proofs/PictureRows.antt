@@ -5,12 +5,13 @@ use Rattle.vc_types.specs.Codes.{uint_at, uint_after}
 use Rattle.vc_types.specs.Bounded.{bounded_uint_after, bounded_uint, bounded_sint, bounded_sints}
 use Rattle.vc_types.specs.Fields.{number_up_to}
 use Rattle.vc_types.specs.Lifting.{weighted, change, lifted}
+use Rattle.vc_types.specs.Presentations.{presentation_of}
 use Rattle.vc_types.specs.Pictures.{slices_from, decoded_picture, all_placed, standing_at, component_cells}
 use Rattle.vc_types.specs.Planes.{output_sample, component_plane, decoded_planes}
 use Rattle.vc_types.specs.Quantisation.{quant_factor, quant_offset, dequantised, default_matrix}
 use Rattle.vc_types.specs.Rasters.{Raster, raster}
 use Rattle.vc_types.specs.SequenceHeader as header
-use Rattle.vc_types.specs.SequenceHeader.{Sequence, sequence_header_of, sequence_header}
+use Rattle.vc_types.specs.SequenceHeader.{Sequence, sequence_header_of, whole_header_of, sequence_header}
 use Rattle.vc_types.specs.Slices.{block, coded_slice, quantisers, block_coefficients, decoded_slice}
 use Rattle.vc_types.specs.Subbands.{slice_rectangle, place_among, slice_coefficient_count, coefficient_place}
 use Rattle.vc_types.specs.TransformParameters as parameters
@@ -37,7 +38,7 @@ sequence = record {
 }
 
 pub header_is : sequence_header (bits_of (0x70 ∷ 0xf6 ∷ 0xf0 ∷ 0x20 ∷ [])) ≡ Ok (sequence, false ∷ false ∷ false ∷ false ∷ false ∷ [])
-unfolding sequence_header_of header.header_number header.major_version header.profile header.base_video_format header.frame_size header.colour_difference_sampling header.scan_format header.ratio header.clean_area header.excursion header.custom_signal_range header.signal_range_of header.colour_part header.colour_specification header.picture_coding_mode number_up_to uint_at uint_after bits_of byte_bits format_of range_of
+unfolding sequence_header_of whole_header_of header.header_number header.major_version header.profile header.base_video_format header.frame_size header.colour_difference_sampling header.scan_format header.ratio header.clean_area header.excursion header.custom_signal_range header.signal_range_of header.colour_part header.colour_specification header.picture_coding_mode number_up_to uint_at uint_after bits_of byte_bits format_of range_of presentation_of
 header_is = refl
 
 -- the planes of a component: these samples, row by row

@@ -5,8 +5,10 @@ use Rattle.std.proofs.lemmas.Bool.{and_parts}
 use Rattle.std.proofs.lemmas.List.{length-replicate}
 use Rattle.vc_types.specs.Bits.{bits_of}
 use Rattle.vc_types.specs.Fields.{filled_up}
-use Rattle.vc_types.specs.HeaderSpelling.{header_bits, spelled_header, IsHeader, IsEncoderHeader, encoder_header, encoder_base, preset_of}
+use Rattle.vc_types.specs.HeaderSpelling.{header_bits, spelled_header, IsHeader, IsEncoderHeader, IsPresentation, encoder_header, encoder_header_with, encoder_base, preset_of}
 use Rattle.vc_types.specs.SequenceHeader.{Sequence, coded_header}
+use Rattle.vc_types.specs.declared.presentation.CodedPresentation.{CodedPresentation}
+use Rattle.vc_types.specs.Presentations.{nothing_coded}
 use Rattle.vc_types.specs.Video.{format_of, range_of, dimensions_fit, side_fits, sampling_fits}
 use Rattle.vc_types.specs.declared.video.SignalRange.{SignalRange}
 use Rattle.vc_types.proofs.CodedBytes.{read_again}
@@ -53,8 +55,8 @@ stands_for_it s form =
     ∙ ap (λ (r : SignalRange). sequence_with s s.major s.minor s.level s.base s.interlaced s.top_first r) (range_again s form)
 
 -- and is accepted
-pub is_accepted : (s : Sequence) → IsEncoderHeader s → IsTrue (dimensions_fit s.width s.height s.sampling s.fields) → IsHeader (encoder_header s)
-is_accepted s form dimensions =
+pub is_accepted : (c : CodedPresentation) (s : Sequence) → IsPresentation c → IsEncoderHeader s → IsTrue (dimensions_fit s.width s.height s.sampling s.fields) → IsHeader (encoder_header_with c s)
+is_accepted c s coded form dimensions =
     let whole = and_parts (side_fits s.width && side_fits s.height) (sampling_fits s.width s.height s.sampling s.fields) dimensions in
     let sides = and_parts (side_fits s.width) (side_fits s.height) whole.0 in
     let width = (side_is s.width sides.0).most in
@@ -65,11 +67,11 @@ is_accepted s form dimensions =
       level = lit≤ tt;
       base = base_known s.top_first;
       size = (omega (arith, width), omega (arith, height));
-      frame_rate = tt;
-      aspect_ratio = tt;
-      clean_area = tt;
+      frame_rate = coded.frame_rate;
+      aspect_ratio = coded.aspect_ratio;
+      clean_area = coded.clean_area;
       range = (omega (arith, form.range.1, preset_is s form), omega (arith, form.range.2, preset_is s form));
-      colour = tt;
+      colour = coded.colour;
       dimensions = dimensions;
     }
 
@@ -77,7 +79,14 @@ pub filled_less : (bits : List Bool) → length (replicate ((8 - length bits % 8
 filled_less bits = omega (arith, length-replicate {A = Bool} ((8 - length bits % 8) % 8) false)
 
 -- What is written of a header is read again, whatever follows.
-pub header_again : (s : Sequence) (bytes behind : List ℕ) → IsEncoderHeader s → IsTrue (dimensions_fit s.width s.height s.sampling s.fields) → bits_of bytes ≡ filled_up (header_bits (encoder_header s)) → coded_header (bytes ++ behind) ≡ Ok (s, length bytes)
-header_again s bytes behind form dimensions written =
-    let read = read_again bytes behind (encoder_header s) (replicate ((8 - length (header_bits (encoder_header s)) % 8) % 8) false) header_is (is_accepted s form dimensions) written (filled_less (header_bits (encoder_header s))) in
+pub header_with_again : (c : CodedPresentation) (s : Sequence) (bytes behind : List ℕ) → IsPresentation c → IsEncoderHeader s → IsTrue (dimensions_fit s.width s.height s.sampling s.fields) → bits_of bytes ≡ filled_up (header_bits (encoder_header_with c s)) → coded_header (bytes ++ behind) ≡ Ok (s, length bytes)
+header_with_again c s bytes behind coded form dimensions written =
+    let bits = header_bits (encoder_header_with c s) in
+    let read = read_again bytes behind (encoder_header_with c s) (replicate ((8 - length bits % 8) % 8) false) header_is (is_accepted c s coded form dimensions) written (filled_less bits) in
     read ∙ ap (λ (t : Sequence). Ok (t, length bytes)) (stands_for_it s form)
+
+pub nothing_accepted : IsPresentation nothing_coded
+nothing_accepted = record { frame_rate = tt; aspect_ratio = tt; clean_area = tt; colour = tt }
+
+pub header_again : (s : Sequence) (bytes behind : List ℕ) → IsEncoderHeader s → IsTrue (dimensions_fit s.width s.height s.sampling s.fields) → bits_of bytes ≡ filled_up (header_bits (encoder_header s)) → coded_header (bytes ++ behind) ≡ Ok (s, length bytes)
+header_again s bytes behind = header_with_again nothing_coded s bytes behind nothing_accepted

@@ -5,18 +5,20 @@ use Rattle.std.specs.Prelude.{None, IsTrue, IfSome, unwrap_or, ◌==◌, if◌th
 use Rattle.vc_types.specs.Bits.{digit_of}
 use Rattle.vc_types.specs.Codes.{uint_bits}
 use Rattle.vc_types.specs.Fields.{flagged_bits, flagged_value, joined, pair_bits, Begins}
+use Rattle.vc_types.specs.Presentations.{presentation_of}
 use Rattle.vc_types.specs.SequenceHeader.{Sequence, high_quality_profile, is_version_of}
 use Rattle.vc_types.specs.Video.{format_of, range_of, dimensions_fit, excursion_fits}
+use Rattle.vc_types.specs.declared.presentation.Choice.{Choice}
+use Rattle.vc_types.specs.declared.presentation.Choice.TheVariants.{Preset, Custom}
+use Rattle.vc_types.specs.declared.presentation.CleanArea.{CleanArea}
+use Rattle.vc_types.specs.declared.presentation.CodedPresentation.{CodedPresentation}
+use Rattle.vc_types.specs.declared.presentation.Colour.{Colour}
+use Rattle.vc_types.specs.declared.presentation.Presentation.{Presentation}
 use Rattle.vc_types.specs.declared.video.Sampling.{Sampling}
 use Rattle.vc_types.specs.declared.video.Sampling.TheVariants.{S444, S422, S420}
 use Rattle.vc_types.specs.declared.video.SignalRange.{SignalRange}
 
 -- ---- parts
-
--- the index of a preset, or what is coded in its place behind the index 0
-pub data Choice (A : Type 0) : Type 0 where
-  Preset : ℕ → Choice A
-  Custom : A → Choice A
 
 abbrev pub choice_bits : {A : Type 0} → (A → List Bool) → Choice A → List Bool
 choice_bits custom (Preset index) = uint_bits index
@@ -26,13 +28,6 @@ abbrev pub sampling_index : Sampling → ℕ
 sampling_index S444 = 0
 sampling_index S422 = 1
 sampling_index S420 = 2
-
--- the visible part of a frame
-pub record CleanArea : Type 0 where
-  pub width : ℕ
-  pub height : ℕ
-  pub left : ℕ
-  pub top : ℕ
 
 abbrev pub area_bits : CleanArea → List Bool
 area_bits a =
@@ -44,11 +39,6 @@ range_bits r =
     ∷ uint_bits r.colour_offset ∷ uint_bits r.colour_excursion ∷ [])
 
 -- colour primaries, colour matrix and transfer function
-pub record Colour : Type 0 where
-  pub primaries : Option ℕ
-  pub matrix : Option ℕ
-  pub transfer : Option ℕ
-
 abbrev pub colour_bits : Colour → List Bool
 colour_bits c =
     joined (flagged_bits uint_bits c.primaries ∷ flagged_bits uint_bits c.matrix
@@ -114,6 +104,19 @@ spelled_header s = record {
   fields = s.fields;
 }
 
+-- what it says of how its frames are shown
+abbrev pub spelled_presentation : HeaderSpelling → Presentation
+spelled_presentation s = record {
+  frame_rate = unwrap_or s.frame_rate (presentation_of s.base).frame_rate;
+  aspect_ratio = unwrap_or s.aspect_ratio (presentation_of s.base).aspect_ratio;
+  clean_area = unwrap_or s.clean_area (presentation_of s.base).clean_area;
+  colour = unwrap_or s.colour (presentation_of s.base).colour;
+}
+
+-- both
+abbrev pub spelled_whole : HeaderSpelling → Sequence × Presentation
+spelled_whole s = (spelled_header s, spelled_presentation s)
+
 -- ---- which spellings are accepted
 
 abbrev pub IsNumber : ℕ → Type 0
@@ -172,6 +175,11 @@ abbrev pub BeginsWithHeader : List ℕ → Sequence → ℕ → Type 0
 BeginsWithHeader bytes sequence used =
     BeginsWithHeaderOf high_quality_profile bytes sequence used
 
+-- bytes begin with a header of profile p that says this of its frames, too
+abbrev pub BeginsWithWholeHeaderOf : ℕ → List ℕ → Sequence × Presentation → ℕ → Type 0
+BeginsWithWholeHeaderOf p bytes said used =
+    Begins (header_bits_of p) spelled_whole (IsHeaderOf p) bytes said used
+
 -- ---- the headers that this project writes
 
 abbrev pub encoder_base : Bool → ℕ
@@ -212,3 +220,19 @@ encoder_header s = record {
   colour = None;
   fields = s.fields;
 }
+
+-- the same, and of how the frames are shown what is coded of it
+abbrev pub encoder_header_with : CodedPresentation → Sequence → HeaderSpelling
+encoder_header_with c s = record (encoder_header s) {
+  frame_rate = c.frame_rate;
+  aspect_ratio = c.aspect_ratio;
+  clean_area = c.clean_area;
+  colour = c.colour;
+}
+
+-- numbers of 32 bits, and no index that is 0
+pub record IsPresentation (c : CodedPresentation) : Type 0 where
+  pub frame_rate : IfSome c.frame_rate (IsChoice (2 ^ 32 - 1) ArePair)
+  pub aspect_ratio : IfSome c.aspect_ratio (IsChoice (2 ^ 32 - 1) ArePair)
+  pub clean_area : IfSome c.clean_area IsArea
+  pub colour : IfSome c.colour (IsChoice (2 ^ 32 - 1) IsColour)

@@ -5,6 +5,8 @@ pub mod Video
 pub mod Limits
 pub mod Rasters
 pub mod Fields
+pub mod Ratios
+pub mod Presentations
 pub mod SequenceHeader
 pub mod TransformParameters
 pub mod Quantisation

@@ -1,9 +1,10 @@
 -- The settings of a sender, of a packer and of a generator without their facts.
-use Rattle.std.specs.Prelude.{ℕ, Bool}
+use Rattle.std.specs.Prelude.{ℕ, Bool, Option}
 use Rattle.vc_types.specs.declared.choice.IndexChoice.{IndexChoice}
 use Rattle.vc_types.specs.declared.settings.GenSettings.{GenSettings}
 use Rattle.vc_types.specs.declared.settings.PackSettings.{PackSettings}
 use Rattle.vc_types.specs.declared.settings.SendSettings.{SendSettings}
+use Rattle.vc_types.specs.declared.settings.Told.{Told}
 use Rattle.vc_types.specs.declared.video.Sampling.{Sampling}
 use Rattle.vc_types.specs.Rates.{Rate, rate_view}
 
@@ -32,6 +33,7 @@ pub record Sending : Type 0 where
   pub picture : ℕ
   pub rate : Rate
   pub pt : ℕ
+  pub told : Option Told
 
 abbrev pub sending_view : SendSettings → Sending
 sending_view s = record {
@@ -56,6 +58,7 @@ sending_view s = record {
   picture = s.picture;
   rate = rate_view s.rate;
   pt = s.pt;
+  told = s.told;
 }
 
 -- how the pictures of an elementary stream are sent

@@ -1,8 +1,13 @@
 -- Sequence headers (ST 2042-1, sequence header): the fields in order, and the first refusal.
 use Rattle.std.specs.Prelude.{ℕ, ◌-◌, ◌^◌, ◌/◌, Bool, ◌&&◌, ◌||◌, List, length}
-use Rattle.std.specs.Prelude.{nat_le, ◌==◌, if◌then◌else◌, Result, Ok, Err}
+use Rattle.std.specs.Prelude.{nat_le, ◌==◌, if◌then◌else◌, Result, Ok, Err, Option, Some, None}
 use Rattle.vc_types.specs.Bits.{bits_of}
 use Rattle.vc_types.specs.declared.header.Header.{Header}
+use Rattle.vc_types.specs.declared.presentation.Choice.{Choice}
+use Rattle.vc_types.specs.declared.presentation.Choice.TheVariants.{Preset, Custom}
+use Rattle.vc_types.specs.declared.presentation.CleanArea.{CleanArea}
+use Rattle.vc_types.specs.declared.presentation.Colour.{Colour}
+use Rattle.vc_types.specs.declared.presentation.Presentation.{Presentation}
 use Rattle.vc_types.specs.declared.shape.Shape.{Shape}
 use Rattle.vc_types.specs.declared.video.Sampling.{Sampling}
 use Rattle.vc_types.specs.declared.video.Sampling.TheVariants.{S444, S422, S420}
@@ -11,7 +16,8 @@ use Rattle.vc_types.specs.declared.refusal.HeaderRefusal.{HeaderRefusal}
 use Rattle.vc_types.specs.declared.refusal.HeaderRefusal.TheVariants as refusals
 use Rattle.vc_types.specs.Video.{BaseFormat, format_of, range_of, signal_range, dimensions_fit}
 use Rattle.vc_types.specs.Video.{excursion_fits, colour_width, colour_height, picture_height, video_depth}
-use Rattle.vc_types.specs.Fields.{Field, ◌>>=◌, give, skip, refuse, tested, behind_flag, number_up_to}
+use Rattle.vc_types.specs.Fields.{Field, ◌>>=◌, give, refuse, tested, behind_flag, number_up_to}
+use Rattle.vc_types.specs.Presentations.{area, presentation_of}
 
 -- the value of a sequence header
 pub record Sequence : Type 0 where
@@ -98,22 +104,22 @@ scan_format base = part base.interlaced (do
   scan ← index 1 refusals.ScanIndex
   give (scan == 1))
 
--- an index and, where it is 0, two numbers: frame rate and pixel aspect ratio, which aren't kept
-unfoldable pub ratio : HeaderField (Unit {0})
-ratio = part tt (do
+-- an index and, where it is 0, a numerator and a denominator: frame rate and pixel aspect ratio
+unfoldable pub ratio : Choice (ℕ × ℕ) → HeaderField (Choice (ℕ × ℕ))
+ratio default = part default (do
   preset ← header_number
   if preset == 0 then (do
     numerator ← header_number
     denominator ← header_number
-    skip) else skip)
+    give (Custom (numerator, denominator))) else give (Preset preset))
 
-unfoldable pub clean_area : HeaderField (Unit {0})
-clean_area = part tt (do
+unfoldable pub clean_area : CleanArea → HeaderField CleanArea
+clean_area default = part default (do
   width ← header_number
   height ← header_number
   left ← header_number
   top ← header_number
-  skip)
+  give (area width height left top))
 
 unfoldable pub excursion : HeaderField ℕ
 excursion = tested excursion_fits refusals.SignalRange header_number
@@ -131,20 +137,21 @@ signal_range_of base = part (range_of base.range) (do
   preset ← index 4 refusals.SignalRange
   if preset == 0 then custom_signal_range else give (range_of preset))
 
--- colour primaries, colour matrix or transfer function, which aren't kept
-unfoldable pub colour_part : HeaderField (Unit {0})
-colour_part = part tt (do
+-- colour primaries, colour matrix or transfer function
+unfoldable pub colour_part : HeaderField (Option ℕ)
+colour_part = part None (do
   preset ← header_number
-  skip)
+  give (Some preset))
 
-unfoldable pub colour_specification : HeaderField (Unit {0})
-colour_specification = part tt (do
+unfoldable pub colour_specification : Choice Colour → HeaderField (Choice Colour)
+colour_specification default = part default (do
   preset ← header_number
   if preset == 0 then (do
     primaries ← colour_part
     matrix ← colour_part
     transfer ← colour_part
-    skip) else skip)
+    give (Custom (record { primaries = primaries; matrix = matrix; transfer = transfer })))
+      else give (Preset preset))
 
 -- whether pictures are fields
 unfoldable pub picture_coding_mode : HeaderField Bool
@@ -154,9 +161,9 @@ picture_coding_mode = do
 
 -- ---- the whole header
 
--- a header of profile p
-unfoldable pub sequence_header_of : ℕ → HeaderField Sequence
-sequence_header_of p = do
+-- a header of profile p, and how its frames are meant to be shown
+unfoldable pub whole_header_of : ℕ → HeaderField (Sequence × Presentation)
+whole_header_of p = do
   major ← major_version p
   minor ← header_number
   same_profile ← profile p
@@ -165,25 +172,39 @@ sequence_header_of p = do
   size ← frame_size (format_of base)
   sampling ← colour_difference_sampling (format_of base)
   interlaced ← scan_format (format_of base)
-  frame_rate ← ratio
-  aspect_ratio ← ratio
-  area ← clean_area
+  frame_rate ← ratio (presentation_of base).frame_rate
+  aspect_ratio ← ratio (presentation_of base).aspect_ratio
+  clean_area ← clean_area (presentation_of base).clean_area
   range ← signal_range_of (format_of base)
-  colour ← colour_specification
+  colour ← colour_specification (presentation_of base).colour
   fields ← picture_coding_mode
-  if dimensions_fit size.0 size.1 sampling fields then give (record {
-    major = major;
-    minor = minor;
-    level = level;
-    base = base;
-    width = size.0;
-    height = size.1;
-    sampling = sampling;
-    interlaced = interlaced;
-    top_first = (format_of base).top_first;
-    range = range;
-    fields = fields;
-  }) else refuse refusals.Dimensions
+  if dimensions_fit size.0 size.1 sampling fields then give (
+    record {
+      major = major;
+      minor = minor;
+      level = level;
+      base = base;
+      width = size.0;
+      height = size.1;
+      sampling = sampling;
+      interlaced = interlaced;
+      top_first = (format_of base).top_first;
+      range = range;
+      fields = fields;
+    },
+    record {
+      frame_rate = frame_rate;
+      aspect_ratio = aspect_ratio;
+      clean_area = clean_area;
+      colour = colour;
+    },
+  ) else refuse refusals.Dimensions
+
+-- the value of a header of profile p, of which the presentation is no part
+unfoldable pub sequence_header_of : ℕ → HeaderField Sequence
+sequence_header_of p = do
+  read ← whole_header_of p
+  give read.0
 
 -- a header of high quality
 abbrev pub sequence_header : HeaderField Sequence
@@ -200,6 +221,11 @@ with_bytes_used bytes (Err refusal) = Err refusal
 
 -- the header of profile p at the front of bytes and how many of them it takes, or the first
 -- refusal
+abbrev pub coded_whole_header_of : ℕ → List ℕ
+    → Result ((Sequence × Presentation) × ℕ) HeaderRefusal
+coded_whole_header_of p bytes = with_bytes_used bytes (whole_header_of p (bits_of bytes))
+
+-- its value alone
 abbrev pub coded_header_of : ℕ → List ℕ → Result (Sequence × ℕ) HeaderRefusal
 coded_header_of p bytes = with_bytes_used bytes (sequence_header_of p (bits_of bytes))
 

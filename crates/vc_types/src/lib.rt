@@ -12,8 +12,10 @@ mod need;
 mod parse_codes;
 mod plan;
 mod plane;
+mod presentation;
 mod profiles;
 mod rate;
+mod ratio;
 mod rect;
 mod refusal;
 mod settings;
@@ -26,7 +28,8 @@ pub use choice::IndexChoice;
 pub use grid::Grid;
 pub use header::Header;
 pub use laws::{
-    headers_of_one_value_are_equal, parameters_of_one_value_are_equal, video_depths_are_least,
+    greatest_divisors_are_common, headers_of_one_value_are_equal,
+    parameters_of_one_value_are_equal, video_depths_are_least,
 };
 pub use limits::{dimensions_fit, padded, picture_height, slices_fit};
 pub use memory::NoMemory;
@@ -37,11 +40,12 @@ pub use parse_codes::{
 };
 pub use plan::Plan;
 pub use plane::Plane;
+pub use presentation::{Choice, CleanArea, CodedPresentation, Colour, Presentation};
 pub use profiles::{HIGH_QUALITY_PROFILE, LOW_DELAY_PROFILE};
 pub use rate::FrameRate;
 pub use rect::Rect;
 pub use refusal::{HeaderRefusal, ParamsRefusal, Short, Unsound};
-pub use settings::{GenSettings, PackSettings, SendSettings};
+pub use settings::{GenSettings, PackSettings, SendSettings, Told};
 pub use shape::Shape;
 pub use video::{Component, Sampling, SignalRange};
 pub use words::Words;

@@ -1,4 +1,6 @@
-ghost use Rattle.std.specs.Prelude.{◌≤◌, IsTrue};
+ghost use Rattle.std.specs.Prelude.{◌≤◌, IsTrue, true};
+ghost use Rattle.std.specs.Option.{option_map_or};
+ghost use Rattle.vc_types.specs.Presentations.{told_fits};
 ghost use Rattle.vc_types.specs.Video.{dimensions_fit};
 ghost use Rattle.vc_types.specs.Limits.{slices_fit};
 ghost use Rattle.vc_types.specs.Settings.{within, choice_fits, luma_fits, first_picture_fits, can_be_sent};
@@ -36,6 +38,8 @@ pub struct SendSettings {
     pub rate: FrameRate,
     /// The RTP payload type.
     pub pt: u8,
+    /// What the sequence header tells of how the frames are shown.
+    pub told: Option<Told>,
     pub ghost dimensions: { IsTrue (dimensions_fit width height sampling fields) },
     pub ghost range_is_known: { IsTrue (within 1 4 range) },
     pub ghost wavelet_is_known: { wavelet ≤ 6 },
@@ -48,6 +52,16 @@ pub struct SendSettings {
     pub ghost padded_luma: { IsTrue (luma_fits width height fields depth) },
     pub ghost first_picture: { IsTrue (first_picture_fits fields picture) },
     pub ghost payload_type: { pt ≤ 127 },
+    pub ghost told_is_known: { IsTrue (option_map_or told_fits told true) },
+}
+
+/// What a sender's header tells of how frames are shown. `rate` is frames over seconds, `aspect` the width of
+/// a pixel over its height, `colour` the number of a colour specification of the standard, 1 to 7.
+#[derive(Clone, Copy)]
+pub struct Told {
+    pub rate: (u32, u32),
+    pub aspect: Option<(u32, u32)>,
+    pub colour: Option<u8>,
 }
 
 /// Which frames are generated. Width and height are those of a frame, `range` the number of its signal range.

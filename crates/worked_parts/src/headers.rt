@@ -7,8 +7,11 @@ ghost use Rattle.vc_types.specs.Video.{excursion_fits, range_of};
 use crate::named::field;
 use crate::said::Said;
 use crate::words::{bytes_of, natural, parted};
-use vc_seqhdr::{read_header, read_header_of, write_header};
-use vc_types::{Header, HeaderRefusal, Sampling, Shape, SignalRange, dimensions_fit};
+use vc_seqhdr::{read_header, read_header_of, read_whole_header_of, write_header};
+use vc_types::{
+    Choice, CleanArea, Colour, HIGH_QUALITY_PROFILE, Header, HeaderRefusal, Presentation, Sampling,
+    Shape, SignalRange, dimensions_fit,
+};
 use worked_common::{Bad, NamedBytes};
 
 fn sampling_word(sampling: Sampling) -> &'static str {
@@ -80,6 +83,56 @@ fn add_read(read: Result<(Header, usize), HeaderRefusal>, said: &mut Said) {
 pub(crate) fn header(parts: &[NamedBytes], given: &str, said: &mut Said) -> Result<(), Bad> {
     let bytes = bytes_of(said.alloc(), parts, given)?;
     add_read(read_header(bytes.as_slice()), said);
+    Ok(())
+}
+
+fn add_ratio(name: &str, ratio: Choice<(u32, u32)>, said: &mut Said) {
+    match ratio {
+        Choice::Preset(index) => write!(said, "{name} {index} "),
+        Choice::Custom((numerator, denominator)) => {
+            write!(said, "{name} {numerator}/{denominator} ")
+        }
+    }
+}
+
+fn add_area(area: &CleanArea, said: &mut Said) {
+    let (width, height, left, top) = (area.width, area.height, area.left, area.top);
+    write!(said, "clean {width} {height} {left} {top} ");
+}
+
+fn add_part(name: &str, index: Option<u32>, said: &mut Said) {
+    match index {
+        Some(index) => write!(said, "{name} {index} "),
+        None => write!(said, "{name} uncoded "),
+    }
+}
+
+fn add_colour(colour: &Choice<Colour>, said: &mut Said) {
+    match colour {
+        Choice::Preset(index) => write!(said, "colour {index} "),
+        Choice::Custom(parts) => {
+            add_part("primaries", parts.primaries, said);
+            add_part("matrix", parts.matrix, said);
+            add_part("transfer", parts.transfer, said);
+        }
+    }
+}
+
+fn add_presentation(shown: &Presentation, said: &mut Said) {
+    add_ratio("rate", shown.frame_rate, said);
+    add_ratio("aspect", shown.aspect_ratio, said);
+    add_area(&shown.clean_area, said);
+    add_colour(&shown.colour, said);
+}
+
+/// How the frames are shown by the sequence header at the front of bytes: a preset by its index, else its
+/// numbers.
+pub(crate) fn header_shown(parts: &[NamedBytes], given: &str, said: &mut Said) -> Result<(), Bad> {
+    let bytes = bytes_of(said.alloc(), parts, given)?;
+    match read_whole_header_of(HIGH_QUALITY_PROFILE, bytes.as_slice()) {
+        Ok(whole) => add_presentation(&whole.presentation, said),
+        Err(refusal) => said.shown(refusal),
+    }
     Ok(())
 }
 

@@ -51,6 +51,7 @@ fn add_of_headers(
     match kind {
         "header" => headers::header(parts, given, said),
         "header-of" => headers::header_of(parts, given, said),
+        "header-shown" => headers::header_shown(parts, given, said),
         "header-cuts" => headers::header_cuts(parts, given, said),
         "header-written" => headers::header_written(given, said),
         "header-planes" => headers::header_planes(parts, given, said),

@@ -4,7 +4,9 @@ use Rattle.stream_model.specs.Packing.{slices_room}
 use Rattle.link_model.specs.SendingPictures.{slice_room}
 use Rattle.picture_encode.specs.Encoded.{bytes_of_slices}
 use Rattle.vc_types.specs.Bits.{bits_of}
-use Rattle.vc_types.specs.Fields.{joined}
+use Rattle.vc_types.specs.Fields.{filled_up, joined}
+use Rattle.vc_types.specs.HeaderSpelling.{encoder_header_with, header_bits}
+use Rattle.vc_types.specs.declared.presentation.CodedPresentation.{CodedPresentation}
 use Rattle.vc_types.specs.SenderSettings.{packing_view, sending_view}
 use Rattle.vc_types.specs.SequenceHeader.{sequence_of}
 use Rattle.vc_types.specs.TransformParameters.{parameters_of}
@@ -16,13 +18,14 @@ use Rattle.link_sender.proofs.Putting.{puts_more}
 use Rattle.link_sender.proofs.SentAsPacked.{appends_packed}
 use Rattle.link_sender.proofs.sender.Sender.put_picture.Goals as goal
 
-pub write_header-requires : goal.write_header-requires
-write_header-requires g c = is_encoder_header c.args.self.now.settings (sequence_of c.args.self.now.header) c.args.self.now.header_is
+pub write_header_with-requires-clause-form : goal.write_header_with-requires-clause-form
+write_header_with-requires-clause-form g c = is_encoder_header c.args.self.now.settings (sequence_of c.args.self.now.header) c.args.self.now.header_is
 
 pub picture-picture-requires-clause-header : goal.picture-picture-requires-clause-header
 picture-picture-requires-clause-header g c =
     header_bytes (sending_view c.args.self.now.settings) (sequence_of c.args.self.now.header) c.deref.result.now c.args.self.now.header_is
-    (ap bits_of c.deref.ensures.value ∙ c.in_ok-header.ensures.value)
+    (ap bits_of c.deref.ensures.value ∙ c.in_ok-header.ensures.value
+    ∙ ap (λ (shown : CodedPresentation). filled_up (header_bits (encoder_header_with shown (sequence_of c.args.self.now.header)))) c.presentation_of-shown.ensures.value)
 
 pub picture-picture-requires-clause-params : goal.picture-picture-requires-clause-params
 picture-picture-requires-clause-params g c =

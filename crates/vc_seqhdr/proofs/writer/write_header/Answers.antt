@@ -1,9 +1,0 @@
-use Rattle.std.proofs.lemmas.Result.{IfOk-weaker}
-use Rattle.vc_types.specs.SequenceHeader.{sequence_of}
-use Rattle.vc_types.proofs.WrittenHeaders.{header_again}
-use Rattle.vc_seqhdr.proofs.writer.write_header.Goals as goal
-
-pub returns-clause-read_again : goal.returns-clause-read_again
-returns-clause-read_again c = IfOk-weaker c.spell.result _ _
-    (λ v written behind. header_again (sequence_of c.args.h.now) v.items behind c.requires c.args.h.now.dimensions written)
-    c.spell.ensures
