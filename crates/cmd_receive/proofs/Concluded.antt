@@ -1,5 +1,5 @@
 -- What a command came to: datagrams were heard since workers were started, and then the end.
-use Rattle.std.proofs.Common.{◌≡◌, true, false, ◌≤◌, ℕ, List, [], ◌∷◌, Option, None, Some, Ok, Err, refl, ap, ◌∙◌, sym, arith, inl, inr}
+use Rattle.std.proofs.Common.{◌≡◌, true, false, ◌≤◌, ℕ, List, [], ◌∷◌, Option, None, Some, Ok, Err, refl, ap, ◌∙◌, subst, sym, arith, inl, inr}
 use Rattle.std.specs.Prelude.{Result, ◌⊎◌}
 use Rattle.link_model.specs.Judgement.{no_counts, outcomes_behind, tally_of, with_sessions}
 use Rattle.link_model.specs.Output.{all_output, full_output}
@@ -17,7 +17,7 @@ use Rattle.link_report.specs.declared.summary.Summary.TheVariants.{Judged}
 use Rattle.vc_ports.proofs.Given.{Gave-none}
 use Rattle.vc_ports.proofs.Growing.{Grew-none, GrewBySome-none}
 use Rattle.vc_ports.specs.Changes.{Change, InputChange, OutputChange, WireChange, HasRisen, Stays, changed, output_of, wire_of}
-use Rattle.vc_ports.specs.Wires.{WireTold, listening}
+use Rattle.vc_ports.specs.Wires.{WireTold}
 use Rattle.vc_slice.specs.Asked.{Told, Grows, starting, told_more}
 use Rattle.cmd_receive.proofs.Asking.{nothing_offered}
 use Rattle.link_hearing.proofs.HeardInputs.{failed_so, read_all, read_until, so_breaks, so_hears}
@@ -33,7 +33,7 @@ use Rattle.cmd_receive.specs.Concluding.{Concludes, with_record_counts}
 use Rattle.cmd_receive.specs.WireInletLaws.{told_between}
 use Rattle.cmd_receive.specs.Playouts.{PlayoutState, BreaksOff, HandsWereOffered, HasEndedSince, Hears, PlaysInput, Stumbles}
 use Rattle.cmd_receive.specs.Receiving.{IsJudged, ReceivesFrom, RecvEnded}
-use Rattle.link_hearing.specs.FromWire.{HeardAt, has_failed_wire}
+use Rattle.link_hearing.specs.FromWire.{HeardAt, HeardToEnd, Listening, begun_at, has_failed_wire}
 use Rattle.cmd_receive.specs.Sessions.{HearsWire, WireHeard}
 
 -- ---- workers
@@ -232,8 +232,8 @@ module _ (form : OutputForm) (window workers : ℕ) (before : Option Told) (x y 
 
   -- ---- a wire
 
-  module _ {mid : PlayoutState} (packets sessions : ℕ) (at : List ℕ) (told listens after : WireTold)
-      (i j k : ℕ) (is : listens ≡ listening told at) (later : i ≤ j)
+  module _ {mid : PlayoutState} (packets sessions : ℕ) (at : Listening) (told listens after : WireTold)
+      (i j k : ℕ) (is : listens ≡ begun_at at told) (later : i ≤ j)
       (h : HearsWire packets sessions (told_between listens after j k) x mid heard)
       (is_of : h.datagrams ≡ ds) where
     abbrev wire : WireChange
@@ -265,10 +265,14 @@ module _ (form : OutputForm) (window workers : ℕ) (before : Option Told) (x y 
         let drained = drained_so AsFrames window x y ds heard failed.0 WireFailed (rw failed.1 at c) in
         omega (arith, later, (rw drained at so).1)
 
+    to_end : HeardToEnd packets sessions (told_between listens after j k) ds
+        → HeardToEnd packets sessions wire ds
+    to_end ended = subst (λ (t : WireTold). HeardToEnd packets sessions (told_between t after j k) ds) is ended
+
     recv_ended : HasHeard AsFrames x.receiver window [] → (answer : Answer)
         → CameTo AsFrames window x y ds heard answer
         → RecvEnded window packets sessions at answer wire (output x y) ds
-    recv_ended new (Done (Judged tally)) c = (passed, (rw c.0 at so).1, judged c.1)
+    recv_ended new (Done (Judged tally)) c = (passed, to_end (rw c.0 at so).1, judged c.1)
     recv_ended new (Drained (Judged tally) end) c = drained tally end c.1 (rw c.0 at so) (judged c.2)
     recv_ended new (Stopped NoMemory) c = (inl passed, heard_part new c)
     recv_ended new (Stopped OutputFailed) c = (passed, heard_part new c.0)
@@ -311,7 +315,7 @@ module _ (O P : Type 0) (held : O → Option (List ℕ)) (faults : O → ℕ) (a
       rw (← first, o_is, p_is) took
 
   module _ (N : Type 0) (told : N → WireTold) (wire_faults : N → ℕ) (n_old n_left n_end : N) where
-    pub datagrams_back : (window workers packets sessions : ℕ) (at : List ℕ) (answer : Answer)
+    pub datagrams_back : (window workers packets sessions : ℕ) (at : Listening) (answer : Answer)
         → ReceivesFrom window workers packets sessions at answer (wire_of told wire_faults n_old n_left)
         (output_of held faults o_first o_left) (changed asked p_old p_left)
         → o_first ≡ o_old → o_end ≡ o_left → p_end ≡ p_left → n_end ≡ n_left
@@ -321,11 +325,11 @@ module _ (O P : Type 0) (held : O → Option (List ℕ)) (faults : O → ℕ) (a
         rw (← first, o_is, p_is, n_is) took
 
 -- all of a wire's datagrams were
-pub took_datagrams : (window workers packets sessions : ℕ) (at : List ℕ) (told listens after : WireTold)
+pub took_datagrams : (window workers packets sessions : ℕ) (at : Listening) (told listens after : WireTold)
     (i j k : ℕ) (before : Option Told) (x mid y : PlayoutState) (heard : Result (Unit {0}) Ending)
     (answer : Answer) → HasHeard AsFrames x.receiver window []
     → Grows before x.asked (starting workers (Ok tt))
-    → listens ≡ listening told at → i ≤ j
+    → listens ≡ begun_at at told → i ≤ j
     → HearsWire packets sessions (told_between listens after j k) x mid heard
     → Concludes mid y heard answer
     → ReceivesFrom window workers packets sessions at answer (told_between told after i k)
@@ -366,7 +370,7 @@ not_started form window workers packets source input output hands input_stays ou
 }
 
 -- there was no memory
-pub not_begun : (window workers packets sessions : ℕ) (at : List ℕ) (wire : WireChange)
+pub not_begun : (window workers packets sessions : ℕ) (at : Listening) (wire : WireChange)
     (output : OutputChange) (hands : Change (Option Told)) → Stays wire.told → Stays output.held
     → HasStarted workers hands ⊎ Stays hands
     → ReceivesFrom window workers packets sessions at (Stopped NoMemory) wire output hands
@@ -388,7 +392,7 @@ unfolding tally_of with_sessions outcomes_behind
 nothing_counted window = refl
 
 -- the wire didn't come to listen
-pub not_listening : (window workers packets sessions : ℕ) (at : List ℕ) (wire : WireChange)
+pub not_listening : (window workers packets sessions : ℕ) (at : Listening) (wire : WireChange)
     (output : OutputChange) (before after : Option Told) (tally : Tally) → Stays wire.told
     → Stays output.held → tally ≡ no_counts → HasRisen wire.faults
     → Grows before after (starting workers (Ok tt))

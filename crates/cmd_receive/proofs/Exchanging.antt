@@ -81,7 +81,7 @@ module _ (x : LoopState) (datagram : List ℕ) (mid : WireTold) (j : ℕ) (first
       record {
         exchanged = exchanged x.playout [] (omega arith) (rw s.ended.0 at s.given);
         hears = none_heard x.playout;
-        in_turn = inr s.ended.1;
+        in_turn = inr s.ended.1.nothing_more;
       },
     )
 

@@ -57,7 +57,7 @@ module _ (packets : ℕ) (wire : WireChange) (x y : PlayoutState) (first last : 
       wire_heard N B (Ok done) (ds, inl r) =
           let s = r.stopped_so.1 in
           whole ds (Ok tt) (all_given ds s.lost s.ended.0 s.given) (omega (arith, r.fewer))
-          (r.heard_so.1.hears, inr (record { fewer = r.fewer; nothing_more = s.ended.1 }))
+          (r.heard_so.1.hears, inr (record { fewer = r.fewer; ended = s.ended.1 }))
       wire_heard N B (Ok done) (ds, inr h) =
           let c = counted ds h.heard_so.1 in
           whole ds (Ok tt) h.came_so.1 h.few (

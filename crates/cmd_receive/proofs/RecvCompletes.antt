@@ -8,11 +8,11 @@ use Rattle.link_report.specs.declared.ending.Ending.TheVariants.{NoMemory, Outpu
 use Rattle.link_report.specs.declared.summary.Summary.TheVariants.{Judged}
 use Rattle.cmd_receive.specs.Receiving.{ReceivesFrom}
 use Rattle.link_hearing.proofs.SessionEnds.{past_by}
-use Rattle.link_hearing.specs.FromWire.{IsReceivable}
+use Rattle.link_hearing.specs.FromWire.{IsReceivable, Listening}
 use Rattle.vc_ports.specs.Changes.{Change, OutputChange, WireChange, HasRisen}
 use Rattle.vc_slice.specs.Asked.{Told}
 
-module _ (window workers packets sessions : ℕ) (at : List ℕ) (wire : WireChange) (output : OutputChange) (hands : Change (Option Told))
+module _ (window workers packets sessions : ℕ) (at : Listening) (wire : WireChange) (output : OutputChange) (hands : Change (Option Told))
     (sound_wire : HasRisen wire.faults → ⊥) (sound_output : HasRisen output.faults → ⊥)
     (whole : IsSomeAnd wire.told.before.coming (IsReceivable packets sessions)) where
   pub recv_completes : (answer : Answer) → ReceivesFrom window workers packets sessions at answer wire output hands → IsComplete answer

@@ -9,7 +9,8 @@ use Rattle.link_report.specs.declared.answer.Answer.TheVariants.{Done, Stopped, 
 use Rattle.link_report.specs.declared.ending.Ending.TheVariants.{NoMemory, OutputFailed}
 use Rattle.link_report.specs.declared.ending.Ending.TheVariants.{PacketLimit, WireFailed}
 use Rattle.link_report.specs.declared.summary.Summary.TheVariants.{Judged}
-use Rattle.link_hearing.specs.FromWire.{HeardAt, HeardAtMost, HeardToEnd, IsPastPackets, has_failed_wire}
+use Rattle.link_hearing.specs.FromWire.{HeardAt, HeardAtMost, HeardToEnd, IsPastPackets, Listening}
+use Rattle.link_hearing.specs.FromWire.{has_failed_wire}
 use Rattle.vc_ports.specs.Changes.{Change, OutputChange, WireChange, HasRisen, Wrote, WrotePart}
 use Rattle.vc_slice.specs.Asked.{Told}
 
@@ -21,7 +22,7 @@ pub record IsJudged (window : ℕ) (tally : Tally) (output : OutputChange) (hear
   pub wrote : Wrote output (full_output window heard)
   pub tally_is : tally ≡ tally_of window heard
 
-abbrev pub RecvEnded : (window packets sessions : ℕ) → List ℕ → Answer → WireChange → OutputChange
+abbrev pub RecvEnded : (window packets sessions : ℕ) → Listening → Answer → WireChange → OutputChange
     → List (List ℕ) → Type 0
 RecvEnded window packets sessions at (Done (Judged tally)) wire output heard =
     HeardAt at wire heard × HeardToEnd packets sessions wire heard
@@ -39,7 +40,7 @@ RecvEnded window packets sessions at answer wire output heard = ⊥
 
 -- receiving at most so many datagrams at an address, until so many sessions have ended
 pub record ReceivesFrom
-    (window workers packets sessions : ℕ) (at : List ℕ) (answer : Answer)
+    (window workers packets sessions : ℕ) (at : Listening) (answer : Answer)
     (wire : WireChange) (output : OutputChange) (hands : Change (Option Told)) : Type 0 where
   pub heard : List (List ℕ)
   pub few : length heard ≤ packets

@@ -27,7 +27,13 @@ module _ (a b c : WireTold) (i j k : ℕ) (first : List (List ℕ))
 
   wire_ends : (end : Option Ending) (lost : List (List ℕ))
       → EndsWire end (told_between b c j k) lost → EndsWire end (told_between a c i k) lost
-  wire_ends None lost e = e
+  wire_ends None lost e = (
+    e.0,
+    record {
+      nothing_more = e.1.nothing_more;
+      said = omega (arith, p.passes.counted.ends_later, e.1.said);
+    },
+  )
   wire_ends (Some WireFailed) lost e = (e.0, omega (arith, p.later, e.1))
   wire_ends (Some NoMemory) lost e = tt
   wire_ends other lost e = absurd e

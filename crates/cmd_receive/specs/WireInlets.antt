@@ -1,10 +1,10 @@
 -- What datagrams that come one after another did to a wire.
 use Rattle.std.specs.Prelude.{◌≡◌, ◌≤◌, ℕ, List, [], ◌++◌, length, Option, Some, None, ⊤}
+use Rattle.link_hearing.specs.FromWire.{HasEnded, ends_said}
 use Rattle.link_outside.specs.Passing.{Passes}
 use Rattle.link_report.specs.declared.ending.Ending.{Ending}
 use Rattle.link_report.specs.declared.ending.Ending.TheVariants.{NoMemory, WireFailed}
 use Rattle.vc_ports.specs.Changes.{WireChange, HasRisen}
-use Rattle.vc_ports.specs.Wires.{IsOver}
 
 -- it gave these, and nothing else was done to it
 pub record WasGiven (wire : WireChange) (datagrams : List (List ℕ)) : Type 0 where
@@ -12,7 +12,7 @@ pub record WasGiven (wire : WireChange) (datagrams : List (List ℕ)) : Type 0 w
   pub later : wire.faults.before ≤ wire.faults.after
 
 abbrev pub EndsWire : Option Ending → WireChange → List (List ℕ) → Type 0
-EndsWire None wire lost = (lost ≡ []) × IsOver wire.told.after.coming
+EndsWire None wire lost = (lost ≡ []) × HasEnded wire.told.after.coming (ends_said wire)
 EndsWire (Some WireFailed) wire lost = (lost ≡ []) × HasRisen wire.faults
 EndsWire (Some NoMemory) wire lost = ⊤
 EndsWire end wire lost = ⊥

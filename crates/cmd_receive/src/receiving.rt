@@ -3,6 +3,7 @@ ghost use Rattle.cmd_receive.specs.Ends.{Counts};
 ghost use Rattle.cmd_receive.specs.Playouts.{IsNew, IsWell, playout_state};
 ghost use Rattle.cmd_receive.specs.Receiving.{ReceivesFrom};
 ghost use Rattle.cmd_receive.specs.Sessions.{HearsWire};
+ghost use Rattle.link_hearing.specs.FromWire.{listening_at};
 ghost use Rattle.vc_ports.specs.Changes.{changed, output_of, wire_of};
 
 use crate::SessionCount;
@@ -38,7 +39,7 @@ pub fn recv<H: Threads + Copy, N: Wire, O: Sink, P: Hands>(
     requires most { options.now.window ≤ 8 }
     requires free { P.is_free hands.old }
     ensures { ReceivesFrom options.now.window options.now.workers options.now.packets options.now.sessions
-        options.now.at.now result
+        (listening_at options.now.at.now options.now.idle) result
         (wire_of N.told N.faults wire.old wire.new)
         (output_of O.held O.faults output.old output.new)
         (changed P.Places.told hands.old hands.new) }

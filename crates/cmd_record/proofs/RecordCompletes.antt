@@ -3,7 +3,7 @@
 use Rattle.std.proofs.Common.{◌≡◌, ℕ, List, IsSomeAnd, refl, inl, inr}
 use Rattle.std.specs.Prelude.{◌⊎◌}
 use Rattle.link_hearing.proofs.SessionEnds.{past_by}
-use Rattle.link_hearing.specs.FromWire.{IsReceivable}
+use Rattle.link_hearing.specs.FromWire.{IsReceivable, Listening}
 use Rattle.link_report.specs.Answers.{answer_status}
 use Rattle.link_report.specs.declared.answer.Answer.{Answer}
 use Rattle.link_report.specs.declared.answer.Answer.TheVariants.{Done, Stopped, Drained, WithRecords}
@@ -11,7 +11,7 @@ use Rattle.link_report.specs.declared.ending.Ending.TheVariants.{NoMemory, Outpu
 use Rattle.vc_ports.specs.Changes.{OutputChange, WireChange, HasRisen}
 use Rattle.cmd_record.specs.Recording.{Records}
 
-module _ (packets sessions : ℕ) (at : List ℕ) (wire : WireChange) (output : OutputChange) (sound_wire : HasRisen wire.faults → ⊥)
+module _ (packets sessions : ℕ) (at : Listening) (wire : WireChange) (output : OutputChange) (sound_wire : HasRisen wire.faults → ⊥)
     (sound_output : HasRisen output.faults → ⊥) (whole : IsSomeAnd wire.told.before.coming (IsReceivable packets sessions)) where
   pub record_completes : (answer : Answer) → Records packets sessions at answer wire output
       → (answer_status answer ≡ 0) ⊎ (answer_status answer ≡ 3)

@@ -6,17 +6,17 @@ use Rattle.std.proofs.lemmas.Bool.{cases_lt}
 use Rattle.std.proofs.lemmas.List.{take-append-le}
 use Rattle.link_capture.specs.Capture.{entry}
 use Rattle.link_hearing.specs.Sessions.{ended_sessions}
-use Rattle.link_outside.specs.Calls.{passes_given, passes_none, passes_then}
+use Rattle.link_outside.specs.Calls.{passes_end, passes_given, passes_kept, passes_none, passes_on, passes_then}
 use Rattle.link_outside.specs.CaptureLaws.{capture-append, capture-one}
 use Rattle.link_outside.specs.Outlets.{capture_of}
 use Rattle.link_outside.specs.Passing.{Passes}
 use Rattle.link_report.specs.declared.ending.Ending.TheVariants.{OutputFailed, PacketLimit, WireFailed}
 use Rattle.vc_ports.proofs.Growing.{Grew-none, Grew-then, GrewBySome-then}
 use Rattle.vc_ports.specs.Changes.{OutputChange, WireChange, Wrote}
-use Rattle.vc_ports.specs.Faults.{Rose}
-use Rattle.vc_ports.specs.Wires.{WireTold, IsOver, Receives}
+use Rattle.vc_ports.specs.Faults.{Rose, counted}
+use Rattle.vc_ports.specs.Wires.{WireTold, IsOver, Receives, ending, keeping}
 use Rattle.vc_ports.specs.Writing.{Grew, GrewBySome}
-use Rattle.cmd_record.specs.Recorders.{HasCounted, RecordsEach}
+use Rattle.cmd_record.specs.Recorders.{HasCounted, RecordsEach, WereKept}
 use Rattle.cmd_record.specs.Watching.{Watches}
 use Rattle.cmd_record.specs.declared.recorder.Recorder.{Recorder}
 
@@ -40,6 +40,7 @@ pub record IsAt
   pub wanted : (k : ℕ) → k < length heard → ended_sessions (take k heard) < sessions
   pub gave : Passes wire.told.before wire.told.after [] heard
   pub wire_later : wire.faults.before ≤ wire.faults.after
+  pub kept : WereKept wire heard
   pub wrote : Wrote output (capture_of heard)
   pub output_later : output.faults.before ≤ output.faults.after
 
@@ -51,6 +52,7 @@ at_first r told i held p counted = record {
   wanted = λ k less. absurd (omega (arith, less));
   gave = passes_none told;
   wire_later = omega arith;
+  kept = record { least = omega arith; most = omega arith };
   wrote = Grew-none held;
   output_later = omega arith;
 }
@@ -70,10 +72,6 @@ still_open : (sessions : ℕ) (r : Recorder) (heard : List (List ℕ)) → HasCo
     → ended_sessions heard < sessions
 still_open sessions r heard counted some = omega (arith, counted.watches.left_are, some)
 
--- what was received, and then a call after which the wire tells the same
-pub received_still : (a b c : WireTold) (datagram : List ℕ) → c ≡ b → Receives a b datagram → Receives a c datagram
-received_still a b c datagram same received = subst (λ (t : WireTold). Receives a t datagram) (sym same) received
-
 module _ (sessions number : ℕ) (a b : WireTold) (i j : ℕ) (held mid : Option (List ℕ)) (p q : ℕ) (x : Recorder) (heard : List (List ℕ))
     (at : IsAt sessions number x (told_between a b i j) (held_between held mid p q) heard) where
   -- ---- one datagram more
@@ -82,20 +80,32 @@ module _ (sessions number : ℕ) (a b : WireTold) (i j : ℕ) (held mid : Option
     gave_one : Passes a c [] (heard ++ d ∷ [])
     gave_one = passes_then a b c [] heard [] (d ∷ []) at.gave (passes_given b c d received)
 
-    pub one_more : (y : Recorder) → 0 < x.watch.left → y.sessions ≡ x.sessions → y.datagrams ≡ x.datagrams + 1
+    -- and the wire is told that it was kept
+    module _ (e : WireTold) (told : e ≡ keeping c) where
+      kept_one : Passes a e [] (heard ++ d ∷ [])
+      kept_one = passes_on a c e [] (heard ++ d ∷ []) gave_one (passes_kept c e told)
+
+      kept_count : e.counts.kept ≡ counted b.counts.kept
+      kept_count = rw (told, received.told) refl
+
+    pub one_more : (e : WireTold) (told : e ≡ keeping c) (y : Recorder) → 0 < x.watch.left → y.sessions ≡ x.sessions → y.datagrams ≡ x.datagrams + 1
         → ((sessions : ℕ) (heard : List (List ℕ)) → Watches x.watch sessions heard → Watches y.watch sessions (heard ++ d ∷ []))
         → Grew mid now (entry d) → q ≤ r
-        → IsAt sessions (number + 1) y (told_between a c i k) (held_between held now p r) (heard ++ d ∷ [])
-    one_more y some same counted watched grew more = record {
+        → IsAt sessions (number + 1) y (told_between a e i k) (held_between held now p r) (heard ++ d ∷ [])
+    one_more e told y some same datagrams watched grew more = record {
       number_is = omega (arith, length-append heard (d ∷ []), at.number_is);
       counted = record {
         sessions_are = same ∙ at.counted.sessions_are;
-        datagrams_are = omega (arith, counted, at.counted.datagrams_are, length-append heard (d ∷ []));
+        datagrams_are = omega (arith, datagrams, at.counted.datagrams_are, length-append heard (d ∷ []));
         watches = watched sessions heard at.counted.watches;
       };
       wanted = wanted_more sessions heard d at.wanted (still_open sessions x heard at.counted some);
-      gave = gave_one;
+      gave = kept_one e told;
       wire_later = omega (arith, at.wire_later, later);
+      kept = record {
+        least = omega (arith, at.kept.least, kept_count e told, length-append heard (d ∷ []));
+        most = omega (arith, at.kept.most, kept_count e told, length-append heard (d ∷ []));
+      };
       wrote = rw (capture-append heard (d ∷ []), capture-one d) (Grew-then held mid now (capture_of heard) (entry d) at.wrote grew);
       output_later = omega (arith, at.output_later, more);
     }
@@ -127,7 +137,7 @@ module _ (sessions number : ℕ) (a b : WireTold) (i j : ℕ) (held mid : Option
         reached = omega (arith, at.counted.watches.left_are, none);
         no_sooner = at.wanted;
       }),
-      record { wrote = at.wrote; counted = at.counted },
+      record { wrote = at.wrote; kept = at.kept; counted = at.counted },
     );
   }
 
@@ -144,38 +154,49 @@ module _ (sessions number : ℕ) (a b : WireTold) (i j : ℕ) (held mid : Option
         count = at.number_is;
         goes_on = still_open sessions x heard at.counted some;
       },
-      record { wrote = at.wrote; counted = at.counted },
+      record { wrote = at.wrote; kept = at.kept; counted = at.counted },
     );
   }
 
-  module _ (packets : ℕ) (room : number < packets) (c : WireTold) (k : ℕ) (same : c ≡ b) where
-    gave_none : Passes a c [] heard
-    gave_none = subst (λ (t : WireTold). Passes a t [] heard) (sym same) at.gave
-
+  module _ (packets : ℕ) (room : number < packets) (c : WireTold) (k : ℕ) where
     -- nothing more will come
-    pub none_left : IsOver b.coming
+    pub none_left : c ≡ ending b → IsOver b.coming
         → RecordsEach packets sessions x (Ok tt) (told_between a c i k) (held_between held mid p q)
-    none_left none = record {
+    none_left is none = record {
       heard = heard;
       few = omega (arith, room, at.number_is);
-      gave = gave_none;
+      gave = passes_on a b c [] heard at.gave (passes_end b c is);
       ended = (
         inr (record {
           fewer = omega (arith, room, at.number_is);
-          nothing_more = subst (λ (t : WireTold). IsOver t.coming) (sym same) none;
+          ended = record {
+            nothing_more = subst (λ (t : WireTold). IsOver t.coming) (sym is) none;
+            said = rw is (omega (arith, at.gave.counted.ends_later));
+          };
         }),
-        record { wrote = at.wrote; counted = at.counted },
+        record {
+          wrote = at.wrote;
+          kept = subst (λ (t : WireTold). WereKept (told_between a t i k) heard) (sym is) at.kept;
+          counted = at.counted;
+        },
       );
     }
 
     -- the wire failed
-    pub wire_fails : Rose j k
+    pub wire_fails : c ≡ b → Rose j k
         → RecordsEach packets sessions x (Err WireFailed) (told_between a c i k) (held_between held mid p q)
-    wire_fails rose = record {
+    wire_fails same rose = record {
       heard = heard;
       few = omega (arith, room, at.number_is);
-      gave = gave_none;
-      ended = (omega (arith, at.wire_later, rose), record { wrote = at.wrote; counted = at.counted });
+      gave = subst (λ (t : WireTold). Passes a t [] heard) (sym same) at.gave;
+      ended = (
+        omega (arith, at.wire_later, rose),
+        record {
+          wrote = at.wrote;
+          kept = subst (λ (t : WireTold). WereKept (told_between a t i k) heard) (sym same) at.kept;
+          counted = at.counted;
+        },
+      );
     }
 
   -- no more sessions are left than are to end

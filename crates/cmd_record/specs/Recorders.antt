@@ -3,7 +3,7 @@ use Rattle.std.specs.Prelude.{◌≡◌, ◌≤◌, ◌-◌, ℕ, true, false, L
 use Rattle.link_hearing.specs.FromWire.{HeardToEnd, IsPastPackets}
 use Rattle.link_hearing.specs.Hearing.{has_broken}
 use Rattle.link_outside.specs.Outlets.{capture_of}
-use Rattle.link_outside.specs.Passing.{Passes}
+use Rattle.link_outside.specs.Passing.{Passes, RoseBy}
 use Rattle.link_report.specs.declared.answer.Answer.{Answer}
 use Rattle.link_report.specs.declared.answer.Answer.TheVariants.{Done, Stopped, Drained}
 use Rattle.link_report.specs.declared.ending.Ending.{Ending}
@@ -25,20 +25,27 @@ counts_of r = Recorded r.datagrams (r.sessions - r.watch.left)
 
 -- ---- recording datagrams
 
+-- the wire was told of each of these that it was kept
+abbrev pub WereKept : WireChange → List (List ℕ) → Type 0
+WereKept wire heard =
+    RoseBy (length heard) wire.told.before.counts.kept wire.told.after.counts.kept
+
 -- all of these were written
 pub record HasRecorded
-    (r : Recorder) (sessions : ℕ) (output : OutputChange) (heard : List (List ℕ)) : Type 0 where
+    (r : Recorder) (sessions : ℕ) (wire : WireChange) (output : OutputChange) (heard : List (List ℕ))
+    : Type 0 where
   pub wrote : Wrote output (capture_of heard)
+  pub kept : WereKept wire heard
   pub counted : HasCounted r sessions heard
 
 abbrev pub RecordedUntil : (packets sessions : ℕ) → Recorder → Result (Unit {0}) Ending → WireChange
     → OutputChange → List (List ℕ) → Type 0
 RecordedUntil packets sessions r (Ok done) wire output heard =
-    HeardToEnd packets sessions wire heard × HasRecorded r sessions output heard
+    HeardToEnd packets sessions wire heard × HasRecorded r sessions wire output heard
 RecordedUntil packets sessions r (Err (PacketLimit limit)) wire output heard =
-    IsPastPackets packets sessions limit heard × HasRecorded r sessions output heard
+    IsPastPackets packets sessions limit heard × HasRecorded r sessions wire output heard
 RecordedUntil packets sessions r (Err WireFailed) wire output heard =
-    HasRisen wire.faults × HasRecorded r sessions output heard
+    HasRisen wire.faults × HasRecorded r sessions wire output heard
 RecordedUntil packets sessions r (Err OutputFailed) wire output heard =
     HasRisen output.faults × WrotePart output (capture_of heard)
 RecordedUntil packets sessions r (Err end) wire output heard = ⊥

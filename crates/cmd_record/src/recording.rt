@@ -1,6 +1,7 @@
 ghost use Rattle.std.specs.Prelude.{◌≡◌, ◌≤◌, [], length, IfOk, IsTrue};
 ghost use Rattle.cmd_record.specs.Recorders.{HasCounted, RecordsEach, StopsRecording};
 ghost use Rattle.cmd_record.specs.Recording.{Records};
+ghost use Rattle.link_hearing.specs.FromWire.{listening_at};
 ghost use Rattle.vc_ports.specs.Changes.{output_of, wire_of};
 
 use crate::options::RecordOptions;
@@ -25,7 +26,8 @@ pub fn record_wire<N: Wire, O: Sink>(
     wire: &mut N,
     output: &mut O,
 ) -> Answer
-    ensures { Records options.now.packets options.now.sessions options.now.at.now result
+    ensures { Records options.now.packets options.now.sessions
+        (listening_at options.now.at.now options.now.idle) result
         (wire_of N.told N.faults wire.old wire.new)
         (output_of O.held O.faults output.old output.new) }
 {

@@ -10,7 +10,7 @@ use Rattle.link_outside.specs.Calls.{looped-none}
 use Rattle.link_outside.specs.Passing.{grown_by, led_by, looped_back}
 use Rattle.vc_ports.proofs.Given.{some_is}
 use Rattle.vc_ports.specs.Changes.{WireChange}
-use Rattle.link_hearing.specs.FromWire.{HeardAt, IsPastPackets, IsReceivable}
+use Rattle.link_hearing.specs.FromWire.{HeardAt, IsPastPackets, IsReceivable, Listening}
 use Rattle.link_hearing.specs.Sessions.{ended_in, ended_sessions}
 
 abbrev pub has_ended_count : HeardSession → ℕ
@@ -59,7 +59,7 @@ too_few packets sessions limit heard rest (inl found) past =
     omega (arith, same, ended_up_to found.0 heard, past.goes_on)
 too_few packets sessions limit heard rest (inr fewer) past = omega (arith, fewer, length-append heard rest, past.count)
 
-pub past_by : (packets sessions : ℕ) (at : List ℕ) (wire : WireChange) → IsSomeAnd wire.told.before.coming (IsReceivable packets sessions)
+pub past_by : (packets sessions : ℕ) (at : Listening) (wire : WireChange) → IsSomeAnd wire.told.before.coming (IsReceivable packets sessions)
     → (heard : List (List ℕ)) (limit : ℕ) → HeardAt at wire heard → IsPastPackets packets sessions limit heard → ⊥
 past_by packets sessions at wire whole heard limit gave past = by_lists wire.told.before.coming wire.told.after.coming whole gave.came
   where

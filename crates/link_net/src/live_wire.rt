@@ -11,7 +11,7 @@ use std::sync::Wait;
 use std::thread::Threads;
 use std::time::{Clock, Duration, Instant};
 use std::{io, mem};
-use vc_ports::{Came, Reached, Sent, Wire};
+use vc_ports::{Came, Reached, Sent, Wire, WireCounts};
 
 /// Where datagrams are sent: the first address that a name has, and a socket of its kind.
 #[derive(Drop)]
@@ -45,6 +45,7 @@ pub struct LiveWire<H> {
     error: Option<io::Error>,
     unsent: u64,
     faults: u64,
+    counts: WireCounts,
 }
 
 impl<H: Threads + Wait + Net + Clock + Copy> LiveWire<H> {
@@ -53,6 +54,7 @@ impl<H: Threads + Wait + Net + Clock + Copy> LiveWire<H> {
         ensures listens { result.backlog ≡ None }
         ensures aimed { result.aim ≡ None }
         ensures faults { result.faults ≡ 0 }
+        ensures counts { result.counts ≡ WireCounts.NONE }
     {
         LiveWire {
             rt,
@@ -67,6 +69,7 @@ impl<H: Threads + Wait + Net + Clock + Copy> LiveWire<H> {
             error: None,
             unsent: 0,
             faults: 0,
+            counts: WireCounts::NONE,
         }
     }
 
@@ -85,6 +88,7 @@ impl<H: Threads + Wait + Net + Clock + Copy> LiveWire<H> {
             error,
             unsent,
             faults: _,
+            counts: _,
         } = self;
         WireNotes {
             address,
@@ -99,7 +103,7 @@ impl<H: Threads + Wait + Net + Clock + Copy> LiveWire<H> {
 }
 
 impl<H: Threads + Wait + Net + Clock + Copy> Wire for LiveWire<H> {
-    ghost told = { λ w. untold (is_some w.backlog) (is_some w.aim) };
+    ghost told = { λ w. untold (is_some w.backlog) (is_some w.aim) w.counts };
 
     ghost faults = { λ w. w.faults };
 
@@ -137,8 +141,12 @@ impl<H: Threads + Wait + Net + Clock + Copy> Wire for LiveWire<H> {
 
     fn send(&mut self, datagram: &[u8]) -> Sent {
         match going_out(&self.aim, datagram) {
-            Ok(()) => Sent::Yes,
+            Ok(()) => {
+                self.counts.count_sent();
+                Sent::Yes
+            }
             Err(error) if is_transient(&error) => {
+                self.counts.count_sent();
                 self.unsent = self.unsent.saturating_add(1);
                 Sent::Lost
             }
@@ -151,6 +159,7 @@ impl<H: Threads + Wait + Net + Clock + Copy> Wire for LiveWire<H> {
     }
 
     fn end_after(&mut self, seconds: u32) {
+        self.counts.ask(seconds);
         self.silence = if seconds == 0 {
             None
         } else {
@@ -159,6 +168,7 @@ impl<H: Threads + Wait + Net + Clock + Copy> Wire for LiveWire<H> {
     }
 
     fn keep(&mut self) {
+        self.counts.count_kept();
         self.kept = Instant::now(&self.rt).ok();
     }
 
@@ -169,7 +179,10 @@ impl<H: Threads + Wait + Net + Clock + Copy> Wire for LiveWire<H> {
         if let Some(backlog) = &mut self.backlog {
             match backlog.await_next(&rt, buf, silence, kept) {
                 Arrival::Datagram(count) => return Came::Datagram(count),
-                Arrival::Silence => return Came::End,
+                Arrival::Silence => {
+                    self.counts.count_end();
+                    return Came::End;
+                }
                 Arrival::Failed(error) => self.error = Some(error),
             }
         }

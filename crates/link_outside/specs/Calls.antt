@@ -2,13 +2,16 @@
 -- these.
 use Rattle.std.proofs.Common.{◌≡◌, ℕ, Bool, true, false, List, [], ◌∷◌, ◌++◌, take, drop, Option, Some, None}
 use Rattle.std.proofs.Common.{refl, sym, ap, ◌∙◌, append_assoc, append-nil, take-append-drop}
+use Rattle.std.proofs.Common.{◌+◌, length, length-append, subst, arith}
 use Rattle.std.specs.Option.{option_map}
 use Rattle.std.specs.Prelude.{IfSome, if◌then◌else◌, Result, Ok, Err}
 use Rattle.std.specs.Result.{IsErr}
-use Rattle.vc_ports.specs.Wires.{WireTold, Receives, grown, sending}
+use Rattle.vc_ports.specs.WireCounts.{sent_one, kept_one, ended_once}
+use Rattle.vc_ports.specs.Wires.{WireTold, Receives, grown, sending, keeping, ending}
+use Rattle.vc_ports.specs.declared.wire_counts.WireCounts.{WireCounts}
 use Rattle.vc_types.specs.declared.memory.NoMemory.{NoMemory}
 use Rattle.link_outside.specs.declared.inbox.Arrived.{Arrived}
-use Rattle.link_outside.specs.Passing.{Arrives, Passes, grown_by, led_by, looped_back}
+use Rattle.link_outside.specs.Passing.{Arrives, Counted, Passes, grown_by, led_by, looped_back}
 use Rattle.std.proofs.lemmas.Bool.{false≢true}
 
 abbrev Lists : Type 0
@@ -48,10 +51,57 @@ looped-append : (looped : Bool) (a b : Lists)
 looped-append true a b = refl
 looped-append false a b = refl
 
--- ---- no call
+-- ---- what is counted
 
-pub passes_none : (told : WireTold) → Passes told told [] []
-passes_none told = record {
+counted_none : (counts : WireCounts) → Counted 0 counts counts
+counted_none counts = record {
+  sent = record { least = omega arith; most = omega arith };
+  idle_stays = refl;
+  kept_later = omega arith;
+  ends_later = omega arith;
+}
+
+counted_sent : (counts : WireCounts) → Counted 1 counts (sent_one counts)
+counted_sent counts = record {
+  sent = record { least = omega arith; most = omega arith };
+  idle_stays = refl;
+  kept_later = omega arith;
+  ends_later = omega arith;
+}
+
+counted_kept : (counts : WireCounts) → Counted 0 counts (kept_one counts)
+counted_kept counts = record {
+  sent = record { least = omega arith; most = omega arith };
+  idle_stays = refl;
+  kept_later = omega arith;
+  ends_later = omega arith;
+}
+
+counted_end : (counts : WireCounts) → Counted 0 counts (ended_once counts)
+counted_end counts = record {
+  sent = record { least = omega arith; most = omega arith };
+  idle_stays = refl;
+  kept_later = omega arith;
+  ends_later = omega arith;
+}
+
+counted_then : (a b c : WireCounts) (sends more all : ℕ) → Counted sends a b → Counted more b c
+    → all ≡ sends + more → Counted all a c
+counted_then a b c sends more all p q sum = record {
+  sent = record {
+    least = omega (arith, p.sent.least, q.sent.least, sum);
+    most = omega (arith, p.sent.most, q.sent.most, sum);
+  };
+  idle_stays = q.idle_stays ∙ p.idle_stays;
+  kept_later = omega (arith, p.kept_later, q.kept_later);
+  ends_later = omega (arith, p.ends_later, q.ends_later);
+}
+
+-- ---- no call, and those by which no datagram passes
+
+passes_nothing : (told : WireTold) (counts : WireCounts) → Counted 0 told.counts counts
+    → Passes told (record told { counts = counts }) [] []
+passes_nothing told counts counted = record {
   sent_grew = grown-none told.sent;
   given_grew = grown-none told.given;
   came = ap (grown_by told.coming) (looped-none told.looped)
@@ -61,7 +111,19 @@ passes_none told = record {
   looped_stays = refl;
   listens_stays = refl;
   aimed_stays = refl;
+  counted = counted;
 }
+
+pub passes_none : (told : WireTold) → Passes told told [] []
+passes_none told = passes_nothing told told.counts (counted_none told.counts)
+
+-- it was told that a datagram was kept
+pub passes_kept : (before after : WireTold) → after ≡ keeping before → Passes before after [] []
+passes_kept before after is = rw is (passes_nothing before _ (counted_kept before.counts))
+
+-- it said that nothing more will come
+pub passes_end : (before after : WireTold) → after ≡ ending before → Passes before after [] []
+passes_end before after is = rw is (passes_nothing before _ (counted_end before.counts))
 
 -- ---- one call
 
@@ -76,6 +138,7 @@ passes_sent before after datagram is = rw is (record {
   looped_stays = refl;
   listens_stays = refl;
   aimed_stays = refl;
+  counted = counted_sent before.counts;
 })
   where
     by_loop : (looped : Bool) (coming : Told) → grown_by coming (looped_back looped (datagram ∷ []))
@@ -101,6 +164,7 @@ passes_given before after datagram received = rw received.told (record {
   looped_stays = refl;
   listens_stays = refl;
   aimed_stays = refl;
+  counted = counted_none before.counts;
 })
 
 -- a datagram for which there was no memory
@@ -134,4 +198,14 @@ passes_then before mid after sent given more_sent more_given first second = reco
   looped_stays = second.looped_stays ∙ first.looped_stays;
   listens_stays = second.listens_stays ∙ first.listens_stays;
   aimed_stays = second.aimed_stays ∙ first.aimed_stays;
+  counted = counted_then _ _ _ (length sent) (length more_sent) _ first.counted second.counted
+      (length-append sent more_sent);
 }
+
+-- and then calls by which no datagram passes
+pub passes_on : (before mid after : WireTold) (sent given : Lists) → Passes before mid sent given
+    → Passes mid after [] [] → Passes before after sent given
+passes_on before mid after sent given first second =
+    subst (λ (l : Lists). Passes before after l given) (append-nil sent)
+    (subst (λ (l : Lists). Passes before after (sent ++ []) l) (append-nil given)
+    (passes_then before mid after sent given [] [] first second))

@@ -5,7 +5,8 @@ use Rattle.std.proofs.lemmas.Option.{get_or_from_slice_get, slice_get_within}
 use Rattle.std.proofs.Math.Seq.{take-add}
 use native.Mathlib.Numerals.{unary_clauses}
 use Rattle.vc_ports.proofs.Given.{some_is}
-use Rattle.vc_ports.specs.MemoryWires.{AreDatagrams}
+use Rattle.vc_ports.specs.MemoryWires.{AreDatagrams, asked_of}
+use Rattle.vc_ports.specs.declared.wire_counts.WireCounts.{WireCounts}
 
 none_is_some : {A : Type 0} (x : A) → None ≡ Some x → ⊥
 none_is_some x p = cc
@@ -33,6 +34,11 @@ pub behind_front : (front back : List (List ℕ)) (at : ℕ) → slice_get front
 behind_front [] back at p = simp unary_clauses refl
 behind_front (x ∷ front) back zero p = absurd (none_is_some x (sym p))
 behind_front (x ∷ front) back (suc at) p = behind_front front back at p ∙ ap (slice_get back) (omega arith)
+
+-- no end is said where one comes
+pub no_end : (coming : List (List ℕ)) (one : List ℕ) (counts : WireCounts) → take 1 coming ≡ one ∷ [] → asked_of coming counts ≡ counts
+no_end [] one counts p = let none : [] ≡ one ∷ [] = p in absurd cc
+no_end (x ∷ xs) one counts p = refl
 
 -- one more was given
 pub one_gone : (at : ℕ) (all : List (List ℕ)) → drop (at + 1) all ≡ drop 1 (drop at all)

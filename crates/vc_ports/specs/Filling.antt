@@ -10,6 +10,11 @@ Fills before after new Whole = Gave before after new
 Fills before after new (End n) = (n < length new) × GaveAll before after (take n new)
 Fills before after new (Failed n) = (n < length new) × Gave before after (take n new)
 
+-- nothing was left
+abbrev pub IsFillEnd : Filled → Type 0
+IsFillEnd (End n) = Unit {0}
+IsFillEnd answer = ⊥
+
 -- a read failed
 abbrev pub IsFillFault : Filled → Type 0
 IsFillFault (Failed n) = Unit {0}

@@ -4,6 +4,7 @@ pub mod Writing
 pub mod Filling
 pub mod Memory
 pub mod Adapters
+pub mod WireCounts
 pub mod Wires
 pub mod MemoryWires
 pub mod Store

@@ -12,10 +12,29 @@ use Rattle.vc_ports.specs.declared.sink.Took.TheVariants as took
 abbrev pub fails_next : List ℕ → ℕ → Bool
 fails_next fails calls = list_any (λ number. nat_eq number (counted calls)) fails
 
--- the bytes that are left, the numbers of the calls that fail, how many calls there were, and how
--- many failed
+-- ---- a source that never fails
+
+-- the bytes that are left, and how often it said that none are
+pub record PlainLeft : Type 0 where
+  pub left : List ℕ
+  pub ends : ℕ
+
+-- how often it said so, once a read asked for some of these
+abbrev pub ends_of : List ℕ → ℕ → ℕ
+ends_of [] ends = counted ends
+ends_of (byte ∷ left) ends = ends
+
+-- the source behind a read into a buffer with this room
+abbrev pub plain_read : PlainLeft → ℕ → PlainLeft
+plain_read s room = record { left = drop room s.left; ends = ends_of s.left s.ends }
+
+-- ---- one that fails
+
+-- the bytes that are left, how often it said that none are, the numbers of the calls that fail, how
+-- many calls there were, and how many failed
 pub record SourceState : Type 0 where
   pub left : List ℕ
+  pub ends : ℕ
   pub fails : List ℕ
   pub calls : ℕ
   pub faults : ℕ
@@ -33,7 +52,11 @@ read_answer s room = if fails_next s.fails s.calls then got.Failed else answer_o
 abbrev pub source_after : SourceState → ℕ → SourceState
 source_after s room = if fails_next s.fails s.calls
     then record s { calls = counted s.calls; faults = counted s.faults }
-    else record s { left = drop room s.left; calls = counted s.calls }
+    else record s {
+      left = drop room s.left;
+      ends = ends_of s.left s.ends;
+      calls = counted s.calls;
+    }
 
 -- the bytes held, how many may be held, the numbers of the calls that fail, how many calls there
 -- were, and how many failed

@@ -3,7 +3,9 @@ use Rattle.std.specs.Prelude.{ℕ, ◌+◌, ◌-◌, ◌≤◌, List, [], ◌∷
 use Rattle.std.specs.Prelude.{map, length, take, drop, if◌then◌else◌, Some, None, Vec, vec_items}
 use Rattle.vc_ports.specs.Faults.{counted}
 use Rattle.vc_ports.specs.Memory.{fails_next}
+use Rattle.vc_ports.specs.WireCounts.{sent_one, ended_once}
 use Rattle.vc_ports.specs.Wires.{WireTold}
+use Rattle.vc_ports.specs.declared.wire_counts.WireCounts.{WireCounts}
 use Rattle.vc_ports.specs.declared.wire.Came.{Came}
 use Rattle.vc_ports.specs.declared.wire.Came.TheVariants as came
 use Rattle.vc_ports.specs.declared.wire.Reached.{Reached}
@@ -23,11 +25,17 @@ abbrev pub came_of : List (List ℕ) → Came
 came_of [] = came.End
 came_of (datagram ∷ more) = came.Datagram (length datagram)
 
+-- the counts of a wire from which the next of these datagrams was asked for
+abbrev pub asked_of : List (List ℕ) → WireCounts → WireCounts
+asked_of [] counts = ended_once counts
+asked_of (datagram ∷ more) counts = counts
+
 -- ---- a wire that never fails
 
 pub record PlainState : Type 0 where
   pub coming : List (List ℕ)
   pub given : List (List ℕ)
+  pub counts : WireCounts
 
 abbrev pub plain_told : PlainState → WireTold
 plain_told w = record {
@@ -39,10 +47,15 @@ plain_told w = record {
   looped = false;
   listens = true;
   aimed = true;
+  counts = w.counts;
 }
 
 abbrev pub plain_received : PlainState → PlainState
-plain_received w = record { coming = drop 1 w.coming; given = w.given ++ take 1 w.coming }
+plain_received w = record {
+  coming = drop 1 w.coming;
+  given = w.given ++ take 1 w.coming;
+  counts = asked_of w.coming w.counts;
+}
 
 -- ---- calls that fail
 
@@ -74,6 +87,7 @@ pub record WireState : Type 0 where
   pub to : List (List ℕ)
   pub looped : Bool
   pub meter : Metered
+  pub counts : WireCounts
 
 -- it listens once it has an address to listen at, and is aimed likewise
 abbrev pub has_address : List (List ℕ) → Bool
@@ -90,6 +104,7 @@ memory_told w = record {
   looped = w.looped;
   listens = has_address w.at;
   aimed = has_address w.to;
+  counts = w.counts;
 }
 
 -- the room that a datagram or an address takes
@@ -119,6 +134,7 @@ send_after w datagram = record w {
   sent = longer w datagram w.sent;
   coming = if w.looped then longer w datagram w.coming else w.coming;
   meter = meter_after w.meter (room_of datagram);
+  counts = if meter_refuses w.meter (room_of datagram) then w.counts else sent_one w.counts;
 }
 
 abbrev pub recv_answer : WireState → Came
@@ -131,6 +147,7 @@ recv_after w = if meter_refuses w.meter 0
       coming = drop 1 w.coming;
       given = w.given ++ take 1 w.coming;
       meter = meter_after w.meter 0;
+      counts = asked_of w.coming w.counts;
     }
 
 -- ---- how they are kept

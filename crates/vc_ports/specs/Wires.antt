@@ -2,6 +2,8 @@
 use Rattle.std.specs.Prelude.{◌≡◌, ℕ, ◌≤◌, Bool, true, false, if◌then◌else◌, List, [], ◌∷◌, ◌++◌}
 use Rattle.std.specs.Prelude.{length, take, drop, Option, None, IfSome}
 use Rattle.std.specs.Option.{option_map}
+use Rattle.vc_ports.specs.WireCounts.{sent_one, ended_once, kept_one, asked_for}
+use Rattle.vc_ports.specs.declared.wire_counts.WireCounts.{WireCounts}
 use Rattle.vc_ports.specs.declared.wire.Came.{Came}
 use Rattle.vc_ports.specs.declared.wire.Came.TheVariants as came
 use Rattle.vc_ports.specs.declared.wire.Reached.{Reached}
@@ -11,7 +13,7 @@ use Rattle.vc_ports.specs.declared.wire.Sent.TheVariants as sent
 
 -- The datagrams that will come, those that were given and those that were sent, and the addresses
 -- at which it listens and to which it is aimed: each list where the wire tells it. Whether what is
--- sent comes, whether the wire listens, and whether it is aimed.
+-- sent comes, whether the wire listens, and whether it is aimed; and what every wire counts.
 pub record WireTold : Type 0 where
   pub coming : Option (List (List ℕ))
   pub given : Option (List (List ℕ))
@@ -21,10 +23,11 @@ pub record WireTold : Type 0 where
   pub looped : Bool
   pub listens : Bool
   pub aimed : Bool
+  pub counts : WireCounts
 
 -- a wire that tells none of its lists
-abbrev pub untold : (listens aimed : Bool) → WireTold
-untold listens aimed = record {
+abbrev pub untold : (listens aimed : Bool) → WireCounts → WireTold
+untold listens aimed counts = record {
   coming = None;
   given = None;
   sent = None;
@@ -33,6 +36,7 @@ untold listens aimed = record {
   looped = false;
   listens = listens;
   aimed = aimed;
+  counts = counts;
 }
 
 -- a list that is told, with one more at its end
@@ -51,11 +55,24 @@ abbrev pub sending : WireTold → List ℕ → WireTold
 sending told datagram = record told {
   sent = grown told.sent datagram;
   coming = if told.looped then grown told.coming datagram else told.coming;
+  counts = sent_one told.counts;
 }
 
 abbrev pub receiving : WireTold → List ℕ → WireTold
 receiving told datagram =
     record told { coming = option_map (drop 1) told.coming; given = grown told.given datagram }
+
+-- it was asked to end after so many seconds
+abbrev pub waiting : ℕ → WireTold → WireTold
+waiting seconds told = record told { counts = asked_for seconds told.counts }
+
+-- it was told that a datagram was kept
+abbrev pub keeping : WireTold → WireTold
+keeping told = record told { counts = kept_one told.counts }
+
+-- it said that nothing more will come
+abbrev pub ending : WireTold → WireTold
+ending told = record told { counts = ended_once told.counts }
 
 -- ---- by the call's answer
 
@@ -87,5 +104,5 @@ pub record Receives (before after : WireTold) (datagram : List ℕ) : Type 0 whe
 abbrev pub Comes : WireTold → WireTold → List ℕ → Came → Type 0
 Comes before after buf (came.Datagram n) = (n ≤ length buf) × Receives before after (take n buf)
 -- a wire that tells what will come ends where nothing will; one that doesn't may end
-Comes before after buf came.End = IsOver before.coming × (after ≡ before)
+Comes before after buf came.End = IsOver before.coming × (after ≡ ending before)
 Comes before after buf came.Failed = after ≡ before

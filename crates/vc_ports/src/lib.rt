@@ -22,6 +22,7 @@ mod store;
 mod untold_wire;
 mod whole;
 mod wire;
+mod wire_counts;
 
 pub use gate::{Gate, NoGate};
 pub use memory_sink::MemSink;
@@ -38,3 +39,4 @@ pub use std_source::StdSource;
 pub use untold_wire::UntoldWire;
 pub use whole::{Filled, fill, write_all};
 pub use wire::{Came, Reached, Sent, Wire};
+pub use wire_counts::WireCounts;

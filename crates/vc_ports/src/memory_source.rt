@@ -23,7 +23,8 @@ impl Model for MemSource {
     ghost Value = { SourceState };
 
     ghost view = { λ s. record {
-      left = s.inner;
+      left = s.inner.left;
+      ends = s.inner.ends;
       fails = s.fails.items;
       calls = s.calls;
       faults = s.faults;
@@ -35,6 +36,7 @@ impl MemSource {
     pub fn new(bytes: Vec<u8>, fails: Vec<u64>) -> MemSource
         ensures { result ≡ record {
           left = bytes.items;
+          ends = 0;
           fails = fails.items;
           calls = 0;
           faults = 0;
@@ -54,10 +56,13 @@ impl Source for MemSource {
 
     ghost faults = { λ s. s.faults };
 
+    ghost ends = { λ s. s.ends };
+
     fn read(&mut self, buf: &mut [u8]) -> Got
         requires { 0 < length buf.old }
         ensures bytes { Reads (Some self.old.left) (Some self.new.left) buf.old buf.new result }
         ensures cause { HasCause self.old.faults self.new.faults (result ≡ Got.Failed) }
+        ensures end { HasCause self.old.ends self.new.ends (result ≡ Got.End) }
         ensures answer { result ≡ read_answer self.old (length buf.old) }
         ensures state { self.new ≡ source_after self.old (length buf.old) }
     {

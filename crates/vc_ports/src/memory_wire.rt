@@ -3,12 +3,14 @@ ghost use Rattle.std.specs.Prelude.{MatchOption, slice_get, None, Some};
 ghost use Rattle.vc_ports.specs.Faults.{HasCause};
 ghost use Rattle.vc_ports.specs.MemoryWires.{AreDatagrams, memory_told, reach_answer, listen_after};
 ghost use Rattle.vc_ports.specs.MemoryWires.{aim_after, send_answer, send_after, recv_answer, recv_after};
+ghost use Rattle.vc_ports.specs.WireCounts.{kept_one, asked_for};
 ghost use Rattle.vc_ports.specs.Wires.{Reaches, Sends, Comes, listening, aiming};
 
 use crate::datagrams::{datagram_at, give};
 use crate::meter::Meter;
 use crate::store::Store;
 use crate::wire::{Came, Reached, Sent, Wire};
+use crate::wire_counts::WireCounts;
 use std::alloc::Global;
 use std::marker::Model;
 use vc_types::NoMemory;
@@ -26,6 +28,7 @@ pub struct MemWire {
     to: Store,
     looped: bool,
     meter: Meter,
+    counts: WireCounts,
 }
 
 impl Model for MemWire {
@@ -42,6 +45,7 @@ impl Model for MemWire {
       to = w.to.pieces;
       looped = w.looped;
       meter = w.meter;
+      counts = w.counts;
     } };
 
     ghost invariant = { λ w.
@@ -71,6 +75,7 @@ impl MemWire {
           to = [];
           looped = looped;
           meter = record { room = room; fails = fails.items; calls = 0; faults = 0 };
+          counts = WireCounts.NONE;
         }) }
     {
         Ok(MemWire {
@@ -86,7 +91,15 @@ impl MemWire {
                 calls: 0,
                 faults: 0,
             },
+            counts: WireCounts::NONE,
         })
+    }
+
+    /// What it counted.
+    pub fn counts(&self) -> &WireCounts
+        ensures { result.now ≡ self.now.counts }
+    {
+        &self.counts
     }
 
     /// The datagram that was sent at this place.
@@ -173,16 +186,21 @@ impl Wire for MemWire {
             return Sent::Failed;
         }
         self.sent.push(datagram);
+        self.counts.count_sent();
         Sent::Yes
     }
 
-    fn end_after(&mut self, _seconds: u32)
-        ensures { self.new ≡ self.old }
-    {}
+    fn end_after(&mut self, seconds: u32)
+        ensures { self.new ≡ record self.old { counts = asked_for seconds self.old.counts } }
+    {
+        self.counts.ask(seconds);
+    }
 
     fn keep(&mut self)
-        ensures { self.new ≡ self.old }
-    {}
+        ensures { self.new ≡ record self.old { counts = kept_one self.old.counts } }
+    {
+        self.counts.count_kept();
+    }
 
     fn recv(&mut self, buf: &mut [u8]) -> Came
         requires room { length buf.old ≡ 65535 }
@@ -201,7 +219,10 @@ impl Wire for MemWire {
                 self.given += 1;
                 Came::Datagram(count)
             }
-            None => Came::End,
+            None => {
+                self.counts.count_end();
+                Came::End
+            }
         }
     }
 }

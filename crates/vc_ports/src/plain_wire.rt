@@ -1,10 +1,12 @@
 ghost use Rattle.std.specs.Prelude.{◌≡◌, ◌≤◌, ◌∷◌, [], MatchOption, length, take};
 ghost use Rattle.vc_ports.specs.Faults.{HasCause};
 ghost use Rattle.vc_ports.specs.MemoryWires.{AreDatagrams, came_of, plain_told, plain_received};
+ghost use Rattle.vc_ports.specs.WireCounts.{sent_one, kept_one, asked_for};
 ghost use Rattle.vc_ports.specs.Wires.{Comes};
 
 use crate::datagrams::{datagram_at, give};
 use crate::wire::{Came, Reached, Sent, Wire};
+use crate::wire_counts::WireCounts;
 use std::marker::Model;
 
 /// A wire in memory that never fails, and always listens and is aimed. It tells the datagrams that will come
@@ -13,6 +15,7 @@ use std::marker::Model;
 pub struct PlainWire {
     datagrams: Vec<Vec<u8>>,
     given: usize,
+    counts: WireCounts,
 }
 
 impl Model for PlainWire {
@@ -24,6 +27,7 @@ impl Model for PlainWire {
     ghost view = { λ w. record {
       coming = drop w.given (datagrams_in w.datagrams.items);
       given = take w.given (datagrams_in w.datagrams.items);
+      counts = w.counts;
     } };
 
     ghost invariant = { λ w. (w.given ≤ length (datagrams_in w.datagrams.items))
@@ -36,11 +40,16 @@ impl PlainWire {
     /// A wire from which these datagrams come.
     pub fn new(coming: Vec<Vec<u8>>) -> PlainWire
         requires { AreDatagrams (datagrams_in coming.items) }
-        ensures { result ≡ record { coming = datagrams_in coming.items; given = [] } }
+        ensures { result ≡ record {
+          coming = datagrams_in coming.items;
+          given = [];
+          counts = WireCounts.NONE;
+        } }
     {
         PlainWire {
             datagrams: coming,
             given: 0,
+            counts: WireCounts::NONE,
         }
     }
 
@@ -74,18 +83,23 @@ impl Wire for PlainWire {
 
     fn send(&mut self, _datagram: &[u8]) -> Sent
         ensures answer { result ≡ Sent.Yes }
-        ensures state { self.new ≡ self.old }
+        ensures state { self.new ≡ record self.old { counts = sent_one self.old.counts } }
     {
+        self.counts.count_sent();
         Sent::Yes
     }
 
-    fn end_after(&mut self, _seconds: u32)
-        ensures { self.new ≡ self.old }
-    {}
+    fn end_after(&mut self, seconds: u32)
+        ensures { self.new ≡ record self.old { counts = asked_for seconds self.old.counts } }
+    {
+        self.counts.ask(seconds);
+    }
 
     fn keep(&mut self)
-        ensures { self.new ≡ self.old }
-    {}
+        ensures { self.new ≡ record self.old { counts = kept_one self.old.counts } }
+    {
+        self.counts.count_kept();
+    }
 
     fn recv(&mut self, buf: &mut [u8]) -> Came
         requires room { length buf.old ≡ 65535 }
@@ -100,7 +114,10 @@ impl Wire for PlainWire {
                 self.given += 1;
                 Came::Datagram(count)
             }
-            None => Came::End,
+            None => {
+                self.counts.count_end();
+                Came::End
+            }
         }
     }
 }

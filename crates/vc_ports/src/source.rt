@@ -22,9 +22,13 @@ pub trait Source {
     /// How often it has failed. The count never falls.
     ghost faults: { Self → ℕ };
 
+    /// How often it has said that nothing is left. The count never falls.
+    ghost ends: { Self → ℕ };
+
     /// Reads some bytes into the front of a buffer that is not empty. The rest of the buffer stays.
     fn read(&mut self, buf: &mut [u8]) -> Got
         requires { 0 < length buf.old }
         ensures bytes { Reads (left self.old) (left self.new) buf.old buf.new result }
-        ensures cause { HasCause (faults self.old) (faults self.new) (result ≡ Got.Failed) };
+        ensures cause { HasCause (faults self.old) (faults self.new) (result ≡ Got.Failed) }
+        ensures end { HasCause (ends self.old) (ends self.new) (result ≡ Got.End) };
 }

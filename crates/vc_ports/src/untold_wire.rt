@@ -12,7 +12,7 @@ pub struct UntoldWire {
 impl Wire for UntoldWire {
     ghost use Rattle.vc_ports.specs.MemoryWires.{has_address};
 
-    ghost told = { λ w. untold (has_address w.inner.at) (has_address w.inner.to) };
+    ghost told = { λ w. untold (has_address w.inner.at) (has_address w.inner.to) w.inner.counts };
 
     ghost faults = { λ w. w.inner.meter.faults };
 
@@ -28,9 +28,13 @@ impl Wire for UntoldWire {
         self.inner.send(datagram)
     }
 
-    fn end_after(&mut self, _seconds: u32) {}
+    fn end_after(&mut self, seconds: u32) {
+        self.inner.end_after(seconds);
+    }
 
-    fn keep(&mut self) {}
+    fn keep(&mut self) {
+        self.inner.keep();
+    }
 
     fn recv(&mut self, buf: &mut [u8]) -> Came {
         self.inner.recv(buf)

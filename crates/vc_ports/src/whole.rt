@@ -1,6 +1,6 @@
 ghost use Rattle.std.specs.Prelude.{◌≡◌, OnOk, OnErr, IsErr};
 ghost use Rattle.vc_ports.specs.Faults.{HasCause};
-ghost use Rattle.vc_ports.specs.Filling.{Fills, IsFillFault};
+ghost use Rattle.vc_ports.specs.Filling.{Fills, IsFillEnd, IsFillFault};
 ghost use Rattle.vc_ports.specs.Writing.{Grew, GrewBySome};
 
 use crate::sink::{Sink, Took, WriteFault};
@@ -38,6 +38,7 @@ pub enum Filled {
 pub fn fill<S: Source>(source: &mut S, buf: &mut [u8]) -> Filled
     ensures bytes { Fills (S.left source.old) (S.left source.new) buf.new result }
     ensures cause { HasCause (S.faults source.old) (S.faults source.new) (IsFillFault result) }
+    ensures end { HasCause (S.ends source.old) (S.ends source.new) (IsFillEnd result) }
 {
     let mut at = 0;
     'pieces: while at < buf.len() {

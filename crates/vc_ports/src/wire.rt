@@ -1,6 +1,6 @@
 ghost use Rattle.std.specs.Prelude.{◌≡◌, ◌≤◌, ℕ, IsTrue, length};
 ghost use Rattle.vc_ports.specs.Faults.{HasCause};
-ghost use Rattle.vc_ports.specs.Wires.{WireTold, Reaches, Sends, Comes, listening, aiming};
+ghost use Rattle.vc_ports.specs.Wires.{WireTold, Reaches, Sends, Comes, listening, aiming, waiting, keeping};
 
 /// The result of a call that returns no data.
 #[derive(Clone, Copy)]
@@ -33,7 +33,7 @@ pub enum Came {
 
 /// Where datagrams go, and where they come from.
 pub trait Wire {
-    /// What it was asked to do and what will come, each list where the wire tells it.
+    /// What it was asked to do and what will come, each list where the wire tells it, and its counts.
     ghost told: { Self → WireTold };
 
     /// How often it has failed. The count never falls.
@@ -61,12 +61,12 @@ pub trait Wire {
     /// A wire that tells nothing may end from now on, once no datagram has come for so many seconds that was
     /// kept. 0: it never ends.
     fn end_after(&mut self, seconds: u32)
-        ensures told { told self.new ≡ told self.old }
+        ensures told { told self.new ≡ waiting seconds (told self.old) }
         ensures faults { faults self.new ≡ faults self.old };
 
     /// The datagram that came last was kept.
     fn keep(&mut self)
-        ensures told { told self.new ≡ told self.old }
+        ensures told { told self.new ≡ keeping (told self.old) }
         ensures faults { faults self.new ≡ faults self.old };
 
     /// Receives a datagram into the front of a buffer that has room for any.

@@ -37,6 +37,7 @@ fn two_slices() -> SendSettings
         picture: 0,
         rate: FrameRate::of_ticks(3600),
         pt: 96,
+        told: None,
     }
 }
 

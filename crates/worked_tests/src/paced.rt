@@ -27,6 +27,8 @@ impl<S: Source> Source for Paced<S> {
 
     ghost faults = { λ s. S.faults s.inner };
 
+    ghost ends = { λ s. S.ends s.inner };
+
     fn read(&mut self, buf: &mut [u8]) -> Got {
         self.reads = self.reads.saturating_add(1);
         if self.reads == 7 {

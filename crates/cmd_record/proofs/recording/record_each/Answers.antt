@@ -1,6 +1,6 @@
 use Rattle.std.proofs.Common.{[], refl, arith}
 use Rattle.link_outside.specs.Calls.{passes_given}
-use Rattle.cmd_record.proofs.RecordLoop.{at_first, none_left, one_more, output_fails, received_still, wire_fails}
+use Rattle.cmd_record.proofs.RecordLoop.{at_first, none_left, one_more, output_fails, wire_fails}
 use Rattle.cmd_record.proofs.recording.record_each.Goals as goal
 
 pub loop-place-init : goal.loop-place-init
@@ -39,14 +39,13 @@ loop-place-preserved g c =
     let now = c.in-Datagram.ensures in
     let took = c.in-Ok.ensures in
     let kept = c.keep.ensures in
-    let told = received_still _ _ _ _ kept.told now.told.1 in
-    let gave = passes_given _ _ _ told in
+    let gave = passes_given _ _ _ now.told.1 in
     record {
-      listens = rw gave.listens_stays was.listens;
+      listens = rw (kept.told, gave.listens_stays) was.listens;
       room = omega (arith, c.recv.auto.buf, was.room);
       at = (
         _,
-        one_more _ _ _ _ _ _ _ _ _ _ _ _ was.at.1 _ _ _ told (omega (arith, kept.faults, now.cause.later)) _ _ _ (c.has_enough.ensures.more c.if-has_enough.false)
+        one_more _ _ _ _ _ _ _ _ _ _ _ _ was.at.1 _ _ _ now.told.1 (omega (arith, kept.faults, now.cause.later)) _ _ _ kept.told _ (c.has_enough.ensures.more c.if-has_enough.false)
             took.sessions took.datagrams took.watches took.ok took.cause.later,
       );
     }

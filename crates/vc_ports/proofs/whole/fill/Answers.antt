@@ -12,4 +12,5 @@ pieces-preserved g c =
       within = simp length-append (omega (arith, c.split_at_mut-rest.ensures.front_len, c.split_at_mut-rest.ensures.back_len, c.in-Bytes.ensures.bytes.1));
       gave = Gave-next c.pieces.at c.in-Bytes.count front c.read.new.buf _ _ _ c.split_at_mut-rest.ensures.front_len given came;
       later = omega (arith, c.pieces.invariant.later, c.in-Bytes.ensures.cause.later);
+      ends = omega (arith, c.pieces.invariant.ends, c.in-Bytes.ensures.end.later);
     }

@@ -7,6 +7,7 @@ invariant-pieces g l = record {
   within : l.at ≤ length l.buf;
   gave : Gave (g.S.Source.left l.fn.source) (g.S.Source.left l.source) (take l.at l.buf);
   later : g.S.Source.faults l.fn.source ≤ g.S.Source.faults l.source;
+  ends : g.S.Source.ends l.fn.source ≤ g.S.Source.ends l.source;
 }
 
 abbrev pub decreases-pieces : goal.decreases-pieces

@@ -1,6 +1,6 @@
-use Rattle.std.proofs.Common.{refl, arith}
+use Rattle.std.proofs.Common.{drop, refl, arith}
 use Rattle.std.proofs.lemmas.List.{length-take-le}
-use Rattle.vc_ports.proofs.Coming.{one_gone, one_given}
+use Rattle.vc_ports.proofs.Coming.{no_end, one_gone, one_given}
 use Rattle.vc_ports.specs.MemoryWires.{datagrams_in, queue}
 use Rattle.vc_ports.proofs.memory_wire.MemWireWire.recv.Goals as goal
 
@@ -16,4 +16,7 @@ returns-in-Some-clause-told c = (
 )
 
 pub returns-in-Some-clause-state : goal.returns-in-Some-clause-state
-returns-in-Some-clause-state c = rw (← c.self.view_is, c.refuses.ensures.state, ← c.refuses.ensures.value, c.if-refuses.false, one_gone, one_given) refl
+returns-in-Some-clause-state c =
+    let all = queue (datagrams_in c.self.inside.datagrams.items) c.self.inside.looped c.self.inside.sent.pieces in
+    rw (← c.self.view_is, c.refuses.ensures.state, ← c.refuses.ensures.value, c.if-refuses.false)
+    (rw (no_end (drop c.self.inside.given all) c.in-Some.datagram.now c.self.inside.counts c.in-Some.ensures.next.0, one_gone, one_given) refl)

@@ -1,5 +1,5 @@
 use Rattle.std.proofs.Common.{refl, arith}
-use Rattle.vc_ports.proofs.Coming.{one_gone, one_given}
+use Rattle.vc_ports.proofs.Coming.{no_end, one_gone, one_given}
 use Rattle.vc_ports.proofs.plain_wire.PlainWireWire.recv.Goals as goal
 
 pub returns-in-Some-clause-told : goal.returns-in-Some-clause-told
@@ -9,4 +9,4 @@ returns-in-Some-clause-told c = (
 )
 
 pub returns-in-Some-clause-state : goal.returns-in-Some-clause-state
-returns-in-Some-clause-state c = rw (← c.self.view_is, one_gone, one_given) refl
+returns-in-Some-clause-state c = rw (no_end _ _ _ c.in-Some.ensures.0, ← c.self.view_is, one_gone, one_given) refl
