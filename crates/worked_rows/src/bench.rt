@@ -150,9 +150,9 @@ pub(crate) fn run_alone<H: Threads + Copy + Send + Sync>(
             Ok(bench.ran(setup, status, wire.inner))
         }
         Telling::NothingLost => {
-            let mut wire = LossyWire { inner };
+            let mut wire = LossyWire::new(inner);
             let status = bench.run(rt, alloc, setup, &mut wire, &mut NoPlaces);
-            Ok(bench.ran(setup, status, wire.inner))
+            Ok(bench.ran(setup, status, wire.into_inner()))
         }
     }
 }
