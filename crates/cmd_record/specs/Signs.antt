@@ -7,7 +7,11 @@ use Rattle.cmd_record.specs.declared.sign.Sign.{Sign}
 use Rattle.cmd_record.specs.declared.sign.Sign.TheVariants.{Begins, Ends, Nothing}
 
 abbrev pub session_of : Opening → Session
-session_of o = record { ssrc = o.ssrc; sequence = sequence_of o.header }
+session_of o = record {
+  ssrc = o.ssrc;
+  sequence = sequence_of o.header;
+  presentation = o.presentation;
+}
 
 -- the session that it begins
 abbrev pub begun_by : Sign → Option Session

@@ -1,12 +1,12 @@
 ghost use Rattle.std.specs.Prelude.{◌≡◌, ◌==◌, ◌&&◌, false};
 ghost use Rattle.link_model.specs.Session.{Session, is_end, session_by, session_with};
 ghost use Rattle.vc2_payload.specs.Views.{payload_value};
-ghost use Rattle.vc_types.specs.SequenceHeader.{coded_header};
+ghost use Rattle.vc_types.specs.SequenceHeader.{coded_whole_header_of, high_quality_profile};
 ghost use Rattle.cmd_record.specs.Signs.{IsSign, begun_by, ends_by};
 
 use rtp_head::read_rtp;
-use vc_seqhdr::read_header;
-use vc_types::Header;
+use vc_seqhdr::read_whole_header_of;
+use vc_types::{HIGH_QUALITY_PROFILE, Header, Presentation};
 use vc2_payload::{Payload, read_payload};
 
 /// A sequence header with its source, which may begin a session.
@@ -14,6 +14,7 @@ use vc2_payload::{Payload, read_payload};
 pub(crate) struct Opening {
     pub(crate) ssrc: u32,
     pub(crate) header: Header,
+    pub(crate) presentation: Presentation,
 }
 
 /// What a datagram is to sessions.
@@ -52,11 +53,16 @@ fn payload_sign(ssrc: u32, payload: Payload<'_>) -> Sign
 }
 
 fn header_sign(ssrc: u32, body: &[u8]) -> Sign
-    ensures begins { begun_by result ≡ session_with ssrc (coded_header body.now) }
+    ensures begins { begun_by result
+        ≡ session_with ssrc (coded_whole_header_of high_quality_profile body.now) }
     ensures ends { (s : Session) → ends_by s result ≡ false }
 {
-    match read_header(body) {
-        Ok((header, _)) => Sign::Begins(Opening { ssrc, header }),
+    match read_whole_header_of(HIGH_QUALITY_PROFILE, body) {
+        Ok(whole) => Sign::Begins(Opening {
+            ssrc,
+            header: whole.header,
+            presentation: whole.presentation,
+        }),
         Err(_) => Sign::Nothing,
     }
 }

@@ -5,6 +5,7 @@ use Rattle.std.specs.Option.{option_map, option_or}
 use Rattle.std.proofs.lemmas.Bool.{eq-eqb, ne_eqb}
 use Rattle.vc_ports.proofs.Growing.{Grew-none}
 use Rattle.vc_types.specs.SequenceHeader.{Sequence}
+use Rattle.vc_types.specs.declared.presentation.Presentation.{Presentation}
 use Rattle.vc_types.specs.DataUnits.{DataUnit}
 use Rattle.vc_ports.proofs.Given.{some_is}
 use Rattle.cmd_stream.specs.declared.play_fault.TakeFault.{TakeFault}
@@ -12,7 +13,7 @@ use Rattle.cmd_stream.specs.declared.play_fault.TakeFault.TheVariants as faults
 use Rattle.cmd_stream.specs.PlaySteps.{PlayState, stream_state, shown}
 use Rattle.cmd_stream.specs.declared.coding.Coding.{Coding}
 use Rattle.cmd_stream.specs.declared.coding.Coding.TheVariants.{HighQuality, LowDelay}
-use Rattle.cmd_stream.specs.Stream.{Stream, StreamPicture, begun_as, begun_by, picture_code_of, repeats, sequence_in, with_header, with_picture, picture_in, shows, takes, played, paired_frames, raw_frames}
+use Rattle.cmd_stream.specs.Stream.{Stream, StreamPicture, begun_as, begun_by, begun_with, picture_code_of, repeats, said_in, with_header, with_picture, picture_in, shows, takes, played, paired_frames, raw_frames}
 use Rattle.cmd_stream.specs.Taking.{agreed_state, Agrees, frame_due, ShowsPicture, BringsDue, Brought, HasAtMost, CountsAtMost}
 use Rattle.cmd_stream.proofs.Showing.{begun, shown-kept, played-more}
 
@@ -29,25 +30,22 @@ agreed-kept : (stream : Option Stream) (body : List ℕ) → agreed_state (kept_
 agreed-kept None body = refl
 agreed-kept (Some s) body = agreed-by s (repeats s.coding s.sequence body)
 
-abbrev without_pictures : Coding → Sequence → Stream
-without_pictures coding s = record { coding = coding; sequence = s; pictures = [] }
-
 -- a stream that a first header begins has no pictures
 record Begins (next : Stream) : Type 0 where
   coding : Coding
-  sequence : Sequence
-  is : next ≡ without_pictures coding sequence
+  said : Sequence × Presentation
+  is : next ≡ begun_with coding said
 
-begins_as : (coding : Coding) (found : Option Sequence) (next : Stream) → option_map (without_pictures coding) found ≡ Some next → Begins next
+begins_as : (coding : Coding) (found : Option (Sequence × Presentation)) (next : Stream) → option_map (begun_with coding) found ≡ Some next → Begins next
 begins_as coding None next e = absurd cc
-begins_as coding (Some s) next e = record { coding = coding; sequence = s; is = sym (some_is (without_pictures coding s) next e) }
+begins_as coding (Some said) next e = record { coding = coding; said = said; is = sym (some_is (begun_with coding said) next e) }
 
 begins_by : (body : List ℕ) (next : Stream) → begun_by body ≡ Some next → Begins next
-begins_by body next e = by_first (sequence_in HighQuality body) e
+begins_by body next e = by_first (said_in HighQuality body) e
   where
-    by_first : (found : Option Sequence) → option_or (option_map (without_pictures HighQuality) found) (begun_as LowDelay body) ≡ Some next → Begins next
-    by_first None e = begins_as LowDelay (sequence_in LowDelay body) next e
-    by_first (Some s) e = begins_as HighQuality (Some s) next e
+    by_first : (found : Option (Sequence × Presentation)) → option_or (option_map (begun_with HighQuality) found) (begun_as LowDelay body) ≡ Some next → Begins next
+    by_first None e = begins_as LowDelay (said_in LowDelay body) next e
+    by_first (Some said) e = begins_as HighQuality (Some said) next e
 
 none-by : (s : Sequence) (fields : Bool) → raw_frames s (if fields then paired_frames s.top_first [] else []) ≡ []
 unfolding paired_frames
@@ -62,7 +60,7 @@ played-by stream next false e = absurd cc
 pub played-header : (stream : Option Stream) (body : List ℕ) (next : Stream) → with_header stream body ≡ Some next → played (Some next) ≡ played stream
 played-header None body next e =
     let begins = begins_by body next e in
-    ap (λ (s : Stream). played (Some s)) begins.is ∙ none-by begins.sequence begins.sequence.fields
+    ap (λ (s : Stream). played (Some s)) begins.is ∙ none-by begins.said.0 begins.said.0.fields
 played-header (Some s) body next e = played-by s next (repeats s.coding s.sequence body) e
 
 -- ---- units
@@ -191,14 +189,14 @@ brings-agreed stream u old new before (Err faults.NoMemory) code is none = absur
 kept_more : (n : ℕ) (k : PlayState) → HasAtMost n k → HasAtMost (n + 1) k
 kept_more n k is = record { pictures = omega (arith, is.pictures); frames = is.frames; shape = is.shape }
 
-none_yet : (n : ℕ) (coding : Coding) (s : Sequence) → HasAtMost n (stream_state (without_pictures coding s))
-none_yet n coding s = subst (HasAtMost n) (begun coding s) (record { pictures = omega arith; frames = omega arith; shape = tt })
+none_yet : (n : ℕ) (coding : Coding) (said : Sequence × Presentation) → HasAtMost n (stream_state (begun_with coding said))
+none_yet n coding said = subst (HasAtMost n) (begun coding said.0 said.1) (record { pictures = omega arith; frames = omega arith; shape = tt })
 
 kept_begun : (n : ℕ) (body : List ℕ) (found : Option Stream) (k : PlayState) → begun_by body ≡ found → kept_in found ≡ Some k → HasAtMost n k
 kept_begun n body None k is e = absurd cc
 kept_begun n body (Some next) k is e =
     let begins = begins_by body next is in
-    subst (HasAtMost n) (ap stream_state (sym begins.is) ∙ some_is (stream_state next) k e) (none_yet n begins.coding begins.sequence)
+    subst (HasAtMost n) (ap stream_state (sym begins.is) ∙ some_is (stream_state next) k e) (none_yet n begins.coding begins.said)
 
 same_by : (same : Bool) (k next : PlayState) → (if same then Some k else None) ≡ Some next → k ≡ next
 same_by true k next e = cc

@@ -12,7 +12,7 @@ use Rattle.picture_build.proofs.Weaving.{woven_fits}
 
 -- what is kept when no field waits
 abbrev without_waiting : PlayState → PlayState
-without_waiting k = record { coding = k.coding; sequence = k.sequence; waiting = None; pictures = k.pictures; frames = k.frames }
+without_waiting k = record { coding = k.coding; sequence = k.sequence; presentation = k.presentation; waiting = None; pictures = k.pictures; frames = k.frames }
 
 pub completes-pair : (k : PlayState) (earlier p : StreamPicture) (frame : List Raster) → k.sequence.fields ≡ true → k.waiting ≡ Some earlier → is_pair earlier p ≡ true
     → HaveShape (picture_shape k.sequence) earlier.planes → HaveShape (picture_shape k.sequence) p.planes → planes_in frame ≡ woven k.sequence.top_first earlier.planes p.planes

@@ -7,8 +7,9 @@ use Rattle.std.proofs.lemmas.Grind.{common_steps}
 use Rattle.vc_types.specs.RawFrames.{is_wide, frame_bytes}
 use Rattle.vc_types.specs.Planes.{Planes}
 use Rattle.vc_types.specs.SequenceHeader.{Sequence, picture_shape}
+use Rattle.vc_types.specs.declared.presentation.Presentation.{Presentation}
 use Rattle.cmd_stream.specs.declared.coding.Coding.{Coding}
-use Rattle.cmd_stream.specs.Stream.{Stream, StreamPicture, with_picture, paired_frames, stream_frames, raw_frames, played}
+use Rattle.cmd_stream.specs.Stream.{Stream, StreamPicture, begun_with, with_picture, paired_frames, stream_frames, raw_frames, played}
 use Rattle.cmd_stream.specs.PlaySteps.{PlayState, completed, next_waiting, new_frames, shown, waiting_in, stream_state}
 use Rattle.cmd_stream.proofs.Following.{paired-more, waiting-more}
 
@@ -35,9 +36,9 @@ module _ (stream : Stream) (p : StreamPicture) where
   pub frames-more : stream_frames (with_picture stream p) ≡ stream_frames stream ++ new_frames stream.sequence (stream_state stream).waiting p
   frames-more = frames-by stream.sequence p stream.sequence.fields stream.pictures
 
-  same_kept : (c : Coding) (s : Sequence) (w v : Option StreamPicture) (n m f g : ℕ) → w ≡ v → n ≡ m → f ≡ g
-      → ◌≡◌ {A = PlayState} (record { coding = c; sequence = s; waiting = w; pictures = n; frames = f }) (record { coding = c; sequence = s; waiting = v; pictures = m; frames = g })
-  same_kept c s w v n m f g e h i = rw (e, h, i) refl
+  same_kept : (c : Coding) (s : Sequence) (p : Presentation) (w v : Option StreamPicture) (n m f g : ℕ) → w ≡ v → n ≡ m → f ≡ g
+      → ◌≡◌ {A = PlayState} (record { coding = c; sequence = s; presentation = p; waiting = w; pictures = n; frames = f }) (record { coding = c; sequence = s; presentation = p; waiting = v; pictures = m; frames = g })
+  same_kept c s p w v n m f g e h i = rw (e, h, i) refl
 
   pub shown-kept : shown (stream_state stream) p ≡ stream_state (with_picture stream p)
   shown-kept = grind (arith, common_steps, frames-more, same_kept, waiting-by)
@@ -50,10 +51,13 @@ module _ (stream : Stream) (p : StreamPicture) where
 
 -- ---- no picture yet
 
-begun-by : (c : Coding) (s : Sequence) (fields : Bool) → ◌≡◌ {A = PlayState} (record { coding = c; sequence = s; waiting = None; pictures = 0; frames = 0 }) (record { coding = c; sequence = s; waiting = waiting_with fields []; pictures = 0; frames = length (frames_with s fields []) })
-unfolding paired_frames waiting_in
-begun-by c s true = refl
-begun-by c s false = refl
+abbrev none_of : Coding → Sequence → Presentation → Option StreamPicture → ℕ → PlayState
+none_of c s p waiting frames = record { coding = c; sequence = s; presentation = p; waiting = waiting; pictures = 0; frames = frames }
 
-pub begun : (c : Coding) (s : Sequence) → ◌≡◌ {A = PlayState} (record { coding = c; sequence = s; waiting = None; pictures = 0; frames = 0 }) (stream_state (record { coding = c; sequence = s; pictures = [] }))
-begun c s = begun-by c s s.fields
+begun-by : (c : Coding) (s : Sequence) (p : Presentation) (fields : Bool) → none_of c s p None 0 ≡ none_of c s p (waiting_with fields []) (length (frames_with s fields []))
+unfolding paired_frames waiting_in
+begun-by c s p true = refl
+begun-by c s p false = refl
+
+pub begun : (c : Coding) (s : Sequence) (p : Presentation) → none_of c s p None 0 ≡ stream_state (begun_with c (s, p))
+begun c s p = begun-by c s p s.fields

@@ -4,6 +4,7 @@ use Rattle.std.specs.Option.{option_map}
 use Rattle.vc_types.specs.FieldPairs.{woven}
 use Rattle.vc_types.specs.Planes.{Planes}
 use Rattle.vc_types.specs.SequenceHeader.{Sequence}
+use Rattle.vc_types.specs.declared.presentation.Presentation.{Presentation}
 use Rattle.cmd_stream.specs.declared.coding.Coding.{Coding}
 use Rattle.cmd_stream.specs.Stream.{StreamSoFar, Stream, StreamPicture, is_pair, stream_frames}
 
@@ -30,6 +31,7 @@ new_frames sequence waiting p =
 pub record PlayState : Type 0 where
   pub coding : Coding
   pub sequence : Sequence
+  pub presentation : Presentation
   pub waiting : Option StreamPicture
   pub pictures : ℕ
   pub frames : ℕ
@@ -39,6 +41,7 @@ abbrev pub shown : PlayState → StreamPicture → PlayState
 shown k p = record {
   coding = k.coding;
   sequence = k.sequence;
+  presentation = k.presentation;
   waiting = if k.sequence.fields then next_waiting k.waiting p else k.waiting;
   pictures = k.pictures + 1;
   frames = k.frames + length (new_frames k.sequence k.waiting p);
@@ -55,6 +58,7 @@ abbrev pub stream_state : Stream → PlayState
 stream_state s = record {
   coding = s.coding;
   sequence = s.sequence;
+  presentation = s.presentation;
   waiting = if s.sequence.fields then waiting_in s.pictures else None;
   pictures = length s.pictures;
   frames = length (stream_frames s);

@@ -20,6 +20,7 @@ abbrev pub playback_state : Playback → PlayState
 playback_state s = record {
   coding = s.coding;
   sequence = sequence_of s.header;
+  presentation = s.presentation;
   waiting = option_map picture_of s.waiting;
   pictures = s.pictures;
   frames = s.frames;

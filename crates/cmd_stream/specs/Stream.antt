@@ -14,8 +14,9 @@ use Rattle.byteorder.specs.Endian.{big_number}
 use Rattle.vc_types.specs.ParseCodes.{header_code, low_delay_code, picture_code}
 use Rattle.vc_types.specs.Planes.{Planes, decoded_planes}
 use Rattle.vc_types.specs.SameValues.{same_sequence}
-use Rattle.vc_types.specs.SequenceHeader.{Sequence, coded_header_of, picture_shape}
-use Rattle.vc_types.specs.SequenceHeader.{high_quality_profile, low_delay_profile}
+use Rattle.vc_types.specs.SequenceHeader.{Sequence, coded_header_of, coded_whole_header_of}
+use Rattle.vc_types.specs.SequenceHeader.{high_quality_profile, low_delay_profile, picture_shape}
+use Rattle.vc_types.specs.declared.presentation.Presentation.{Presentation}
 use Rattle.vc_types.specs.DataUnits.{DataUnit, unit_length}
 use Rattle.vc_lowdelay.specs.LowDelay.{decoded_low_planes}
 
@@ -42,11 +43,12 @@ pub record StreamPicture : Type 0 where
   pub number : ℕ
   pub planes : Planes
 
--- a stream whose first header came: how its pictures are coded, its sequence, and the pictures
--- behind it
+-- a stream whose first header came: how its pictures are coded, its sequence, how this header says that
+-- its frames are shown, and the pictures behind it
 pub record Stream : Type 0 where
   pub coding : Coding
   pub sequence : Sequence
+  pub presentation : Presentation
   pub pictures : List StreamPicture
 
 -- ---- headers
@@ -56,16 +58,24 @@ abbrev pub sequence_in : Coding → List ℕ → Option Sequence
 sequence_in coding body =
     option_map (λ read. read.0) (result_ok (coded_header_of (profile_of coding) body))
 
--- a stream with this header, and without pictures
+-- the same, and how its frames are shown
+abbrev pub said_in : Coding → List ℕ → Option (Sequence × Presentation)
+said_in coding body =
+    option_map (λ read. read.0) (result_ok (coded_whole_header_of (profile_of coding) body))
+
+-- a stream whose header says this, without pictures
+abbrev pub begun_with : Coding → Sequence × Presentation → Stream
+begun_with coding said =
+    record { coding = coding; sequence = said.0; presentation = said.1; pictures = [] }
+
 abbrev pub begun_as : Coding → List ℕ → Option Stream
-begun_as coding body = option_map
-    (λ s. record { coding = coding; sequence = s; pictures = [] }) (sequence_in coding body)
+begun_as coding body = option_map (begun_with coding) (said_in coding body)
 
 -- the stream of a first header: of high quality or, where it isn't that, of low delay
 abbrev pub begun_by : List ℕ → Option Stream
 begun_by body = option_or (begun_as HighQuality body) (begun_as LowDelay body)
 
--- a later header has the profile and the value of the first
+-- a later header has the profile and the value of the first, of which the presentation is no part
 abbrev pub repeats : Coding → Sequence → List ℕ → Bool
 repeats coding sequence body =
     option_map_or (same_sequence sequence) (sequence_in coding body) false
@@ -88,6 +98,7 @@ abbrev pub with_picture : Stream → StreamPicture → Stream
 with_picture stream p = record {
   coding = stream.coding;
   sequence = stream.sequence;
+  presentation = stream.presentation;
   pictures = stream.pictures ++ p ∷ [];
 }
 

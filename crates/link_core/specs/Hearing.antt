@@ -13,7 +13,11 @@ use Rattle.link_core.specs.declared.datagram.Opening.{Opening}
 use Rattle.vc_types.specs.SequenceHeader.{sequence_of}
 
 abbrev pub opened_session : Opening → Session
-opened_session o = record { ssrc = o.ssrc; sequence = sequence_of o.header }
+opened_session o = record {
+  ssrc = o.ssrc;
+  sequence = sequence_of o.header;
+  presentation = o.presentation;
+}
 
 -- a session, whether it has had its end, and the window behind its fragments
 pub record SessionWindow : Type 0 where

@@ -9,8 +9,8 @@ use bytes::Bytes;
 use link_window::{Fragment, Part, SlicePart};
 use rtp_head::read_rtp;
 use std::alloc::Global;
-use vc_seqhdr::read_header;
-use vc_types::{Header, NoMemory};
+use vc_seqhdr::read_whole_header_of;
+use vc_types::{HIGH_QUALITY_PROFILE, Header, NoMemory, Presentation};
 use vc2_payload::{Payload, read_payload};
 
 // The source and the payload of a datagram.
@@ -37,11 +37,12 @@ fn read_datagram(datagram: &[u8]) -> Option<Received<'_>>
     }
 }
 
-/// What opens a session: its source, and the header of its sequence.
+/// What opens a session: its source, the header of its sequence, and how its frames are meant to be shown.
 #[derive(Clone, Copy)]
 pub(crate) struct Opening {
     pub(crate) ssrc: u32,
     pub(crate) header: Header,
+    pub(crate) presentation: Presentation,
 }
 
 impl Opening {
@@ -54,8 +55,12 @@ impl Opening {
         let Payload::Header { body, .. } = payload else {
             return None;
         };
-        match read_header(body) {
-            Ok((header, _)) => Some(Opening { ssrc, header }),
+        match read_whole_header_of(HIGH_QUALITY_PROFILE, body) {
+            Ok(whole) => Some(Opening {
+                ssrc,
+                header: whole.header,
+                presentation: whole.presentation,
+            }),
             Err(_) => None,
         }
     }

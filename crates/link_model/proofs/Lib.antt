@@ -22,6 +22,7 @@ pub mod WindowNumbers
 pub mod Hearing
 pub mod Apart
 pub mod Following
+pub mod WholeHeaders
 pub mod OpeningOutcomes
 pub mod SessionOutcomes
 pub mod Closing

@@ -9,7 +9,9 @@ use Rattle.link_model.specs.Packets.{PayloadValue, Header, End, Skip, Params, Sl
 use Rattle.link_model.specs.Session.{Received, received, DatagramRefusal, Session, Part, ParamsPart, SlicesPart, SlicePart, Fragment, HeardSession, opens_next, sessions_of, session_with, session_by, session_from, begins}
 use Rattle.link_model.specs.declared.outcome.Outcome.{Outcome}
 use Rattle.link_model.specs.declared.outcome.Outcome.TheVariants as outcomes
-use Rattle.vc_types.specs.SequenceHeader.{Sequence, coded_header}
+use Rattle.link_model.proofs.WholeHeaders.{value_alone, value_of_whole}
+use Rattle.vc_types.specs.SequenceHeader.{Sequence, coded_whole_header_of, high_quality_profile}
+use Rattle.vc_types.specs.declared.presentation.Presentation.{Presentation}
 use Rattle.vc_types.specs.declared.refusal.HeaderRefusal.{HeaderRefusal}
 
 -- what becomes of a datagram that begins or ends a session
@@ -66,10 +68,12 @@ unopened x other = grind arith
 
 module _ (window : ℕ) where
   first_opens : (ssrc : ℕ) (value : PayloadValue) → opens (early_outcome value) ≡ true → (s : Session) × (session_by ssrc value ≡ Some s)
-  first_opens ssrc (Header high from body) is = by_read (coded_header body) is
+  first_opens ssrc (Header high from body) is =
+      by_read (coded_whole_header_of high_quality_profile body)
+      (sym (ap (λ (r : Result (Sequence × ℕ) HeaderRefusal). opens (opening_outcome r)) (value_of_whole high_quality_profile body)) ∙ is)
     where
-      by_read : (r : Result (Sequence × ℕ) HeaderRefusal) → opens (opening_outcome r) ≡ true → (s : Session) × (session_with ssrc r ≡ Some s)
-      by_read (Ok read) is = (record { ssrc = ssrc; sequence = read.0 }, refl)
+      by_read : (r : Result ((Sequence × Presentation) × ℕ) HeaderRefusal) → opens (opening_outcome (value_alone r)) ≡ true → (s : Session) × (session_with ssrc r ≡ Some s)
+      by_read (Ok read) is = (record { ssrc = ssrc; sequence = read.0.0; presentation = read.0.1 }, refl)
       by_read (Err refusal) is = absurd (false≢true is)
   first_opens ssrc (End high) is = absurd (false≢true is)
   first_opens ssrc (Skip high code) is = absurd (false≢true is)

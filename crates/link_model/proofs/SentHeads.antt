@@ -1,6 +1,6 @@
 -- The sequence header and the transform parameters that are sent are read again.
-use Rattle.std.proofs.Common.{◌≡◌, ◌≤◌, ◌∙◌, ap, ℕ, zero, suc, Bool, true, cond, List, [], ◌++◌, length, Option, Some, None, Ok, refl, arith, IsTrue, unwrap_or, nat_le, ◌&&◌}
-use Rattle.link_model.specs.SendingPictures.{sent_sequence, sent_header, sent_presentation, sent_parameters, sent_parameter_bytes}
+use Rattle.std.proofs.Common.{◌≡◌, ◌≤◌, ◌∙◌, ap, ℕ, zero, suc, Bool, true, cond, List, [], ◌++◌, length, replicate, false, lit≤, ◌-◌, ◌%◌, Option, Some, None, Ok, refl, arith, IsTrue, unwrap_or, nat_le, ◌&&◌}
+use Rattle.link_model.specs.SendingPictures.{sent_sequence, sent_header, sent_presentation, shown_presentation, sent_parameters, sent_parameter_bytes}
 use Rattle.vc_types.specs.declared.settings.SendSettings.{SendSettings}
 use Rattle.vc_types.specs.declared.settings.Told.{Told}
 use Rattle.vc_types.specs.Presentations.{nothing_coded, told_fits, told_presentation}
@@ -8,17 +8,19 @@ use Rattle.vc_types.specs.Video.{side_fits, sampling_fits}
 use Rattle.std.specs.Option.{option_map_or}
 use Rattle.std.proofs.lemmas.Bool.{and_parts}
 use Rattle.vc_types.specs.Limits.{matrix_fits, slice_bytes_fit, padded_luma_fits}
-use Rattle.vc_types.specs.HeaderSpelling.{IsEncoderHeader, IsPresentation, header_bits, encoder_header_with}
+use Rattle.vc_types.specs.HeaderSpelling.{HeaderSpelling, IsEncoderHeader, IsPresentation, header_bits, encoder_header_with}
 use Rattle.vc_types.specs.ParameterSpelling.{parameter_bits, encoder_parameters}
 use Rattle.vc_types.specs.Quantisation.{default_matrix}
 use Rattle.vc_types.specs.SenderSettings.{Sending, sending_view}
-use Rattle.vc_types.specs.SequenceHeader.{coded_header, picture_shape}
+use Rattle.vc_types.specs.SequenceHeader.{Sequence, coded_header, coded_whole_header_of, high_quality_profile, picture_shape}
 use Rattle.vc_types.specs.TransformParameters.{coded_parameters, same_across, default_of}
 use Rattle.vc_types.proofs.MatrixEnds.{default_filled}
 use Rattle.link_model.proofs.PackedBits.{bits_of-filled}
 use Rattle.vc_types.proofs.PictureShapes.{side_is}
 use Rattle.vc_types.proofs.ToldPresentations.{is_coded}
-use Rattle.vc_types.proofs.WrittenHeaders.{header_with_again, nothing_accepted}
+use Rattle.vc_types.proofs.CodedBytes.{read_again}
+use Rattle.vc_types.proofs.HeaderCodecs.{whole_is_of}
+use Rattle.vc_types.proofs.WrittenHeaders.{filled_less, header_with_again, is_accepted, nothing_accepted, stands_for_it}
 use Rattle.vc_types.proofs.WrittenParameters.{IsPlan, parameters_again}
 
 -- the default matrix of each wavelet at each depth
@@ -76,6 +78,19 @@ module _ (settings : SendSettings) where
   unfolding sent_header sent_sequence
   coded_header-sent behind = header_with_again (sent_presentation s) (sent_sequence s) (sent_header s) behind presented form settings.dimensions (bits_of-filled (header_bits (encoder_header_with (sent_presentation s) (sent_sequence s))))
 
+  abbrev spelling : HeaderSpelling
+  spelling = encoder_header_with (sent_presentation s) (sent_sequence s)
+
+  -- with how its frames are shown
+  pub coded_whole-sent : (behind : List ℕ) → coded_whole_header_of high_quality_profile (sent_header s ++ behind) ≡ Ok ((sent_sequence s, shown_presentation s), length (sent_header s))
+  unfolding sent_header shown_presentation sent_sequence
+  coded_whole-sent behind =
+      let bits = header_bits spelling in
+      let fill = replicate ((8 - length bits % 8) % 8) false in
+      let accepted = is_accepted (sent_presentation s) (sent_sequence s) presented form settings.dimensions in
+      read_again (sent_header s) behind spelling fill (whole_is_of high_quality_profile (lit≤ tt)) accepted (bits_of-filled bits) (filled_less bits)
+      ∙ ap (λ (t : Sequence). Ok ((t, shown_presentation s), length (sent_header s))) (stands_for_it (sent_sequence s) form)
+
   slice_bytes : slice_bytes_fit settings.prefix settings.scaler ≡ true
   slice_bytes = bytes_fit settings.prefix settings.scaler settings.prefix_fits settings.scaler_fits
 
@@ -104,4 +119,4 @@ module _ (settings : SendSettings) where
   unfolding sent_parameter_bytes sent_parameters sent_sequence
   coded_parameters-sent behind = parameters_again (sent_sequence s) (sent_parameters s) (sent_parameter_bytes s) behind plan (λ other. refl) refl (bits_of-filled (parameter_bits 3 (encoder_parameters (sent_parameters s))))
 
-pub ruleset laws = (coded_header-sent, coded_parameters-sent)
+pub ruleset laws = (coded_header-sent, coded_whole-sent, coded_parameters-sent)

@@ -9,12 +9,14 @@ use Rattle.std.specs.Option.{option_map_or}
 use Rattle.vc_types.specs.declared.choice.IndexChoice.{IndexChoice}
 use Rattle.vc_types.specs.declared.choice.IndexChoice.TheVariants.{Index, Fit, Budget}
 use Rattle.vc_types.specs.declared.presentation.CodedPresentation.{CodedPresentation}
+use Rattle.vc_types.specs.declared.presentation.Presentation.{Presentation}
 use Rattle.vc_types.specs.declared.video.Component.{Component}
 use Rattle.vc_types.specs.declared.video.Component.TheVariants.{Y, C1, C2}
 use Rattle.vc_types.specs.Bits.{number_of}
 use Rattle.vc_types.specs.Encoding.{encoded_slice, encoded_length}
 use Rattle.vc_types.specs.Fields.{filled_up}
 use Rattle.vc_types.specs.HeaderSpelling.{header_bits, encoder_base, encoder_header_with}
+use Rattle.vc_types.specs.HeaderSpelling.{spelled_presentation}
 use Rattle.vc_types.specs.ParameterSpelling.{parameter_bits, encoder_parameters}
 use Rattle.vc_types.specs.Planes.{Planes}
 use Rattle.vc_types.specs.Presentations.{nothing_coded, told_presentation}
@@ -64,6 +66,11 @@ sent_presentation s =
 unfoldable pub sent_header : Sending → List ℕ
 sent_header s = packed_bits (filled_up (header_bits
     (encoder_header_with (sent_presentation s) (sent_sequence s))))
+
+-- what is read of it: how the base video format's frames are shown, where nothing is told
+unfoldable pub shown_presentation : Sending → Presentation
+shown_presentation s =
+    spelled_presentation (encoder_header_with (sent_presentation s) (sent_sequence s))
 
 -- the same transform across as down, and the default matrix
 unfoldable pub sent_parameters : Sending → Parameters

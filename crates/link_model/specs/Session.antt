@@ -10,7 +10,8 @@ use Rattle.link_model.specs.Packets.{PayloadValue, Header, End, Params, Slices, 
 use Rattle.link_model.specs.Packets.{RtpPacket, rtp_packet, payload}
 use Rattle.link_model.specs.declared.refusal.PayloadRefusal.{PayloadRefusal}
 use Rattle.link_model.specs.declared.refusal.RtpRefusal.{RtpRefusal}
-use Rattle.vc_types.specs.SequenceHeader.{Sequence, coded_header}
+use Rattle.vc_types.specs.SequenceHeader.{Sequence, coded_whole_header_of, high_quality_profile}
+use Rattle.vc_types.specs.declared.presentation.Presentation.{Presentation}
 use Rattle.vc_types.specs.declared.refusal.HeaderRefusal.{HeaderRefusal}
 
 -- ---- one datagram
@@ -40,18 +41,22 @@ received datagram = of_packet datagram (rtp_packet datagram)
 
 -- ---- the session
 
--- whose datagrams count, and the sequence of their pictures
+-- whose datagrams count, the sequence of their pictures, and what the header that began the session
+-- says of how its frames are shown
 pub record Session : Type 0 where
   pub ssrc : ℕ
   pub sequence : Sequence
+  pub presentation : Presentation
 
-abbrev pub session_with : ℕ → Result (Sequence × ℕ) HeaderRefusal → Option Session
-session_with ssrc (Ok read) = Some (record { ssrc = ssrc; sequence = read.0 })
+abbrev pub session_with : ℕ → Result ((Sequence × Presentation) × ℕ) HeaderRefusal → Option Session
+session_with ssrc (Ok read) =
+    Some (record { ssrc = ssrc; sequence = read.0.0; presentation = read.0.1 })
 session_with ssrc (Err refusal) = None
 
 -- a sequence header that is accepted begins a session, nothing else does
 abbrev pub session_by : ℕ → PayloadValue → Option Session
-session_by ssrc (Header high from body) = session_with ssrc (coded_header body)
+session_by ssrc (Header high from body) =
+    session_with ssrc (coded_whole_header_of high_quality_profile body)
 session_by ssrc other = None
 
 abbrev pub session_from : Result Received DatagramRefusal → Option Session
@@ -141,7 +146,7 @@ pub record HeardSession : Type 0 where
 abbrev pub just_opened : Session → HeardSession
 just_opened s = record { session = s; has_ended = false; fragments = [] }
 
--- another source, or a header of another value
+-- another source, or a header of another value, of which the presentation is no part
 abbrev pub is_other : Session → Session → Bool
 is_other s t = not (s.ssrc == t.ssrc && same_sequence s.sequence t.sequence)
 

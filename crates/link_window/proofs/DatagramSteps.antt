@@ -4,8 +4,10 @@ use Rattle.std.proofs.Common.{Ok, Err, ap, ◌∙◌, arith, cond}
 use Rattle.std.specs.Prelude.{◌==◌, ◌&&◌, is_some, slice_range}
 use Rattle.std.specs.Option.{option_map}
 use Rattle.std.proofs.lemmas.Bool.{cond-true, eq-eqb}
+use Rattle.std.proofs.lemmas.Option.{none-some}
 use Rattle.link_model.specs.Judgement.{early_outcome, refusal_outcome, judged_value, judged_received}
-use Rattle.link_model.specs.Packets.{PayloadValue, RtpPacket, rtp_packet, payload}
+use Rattle.link_model.specs.Packets.{PayloadValue, Header, End, Skip, Params, Slices}
+use Rattle.link_model.specs.Packets.{RtpPacket, rtp_packet, payload}
 use Rattle.link_model.specs.Session.{Received, received, DatagramRefusal, OfRtp, OfPayload, of_packet}
 use Rattle.link_model.specs.Session.{of_payload, Session, session_by, session_from, begins}
 use Rattle.link_model.specs.Session.{fragment_by, fragment_from, fragment_in, is_end, end_from, ends}
@@ -18,6 +20,7 @@ use Rattle.receiver_model.specs.Judging.{opens_from, opens_after, known_by_windo
 use Rattle.receiver_model.specs.Receptions.{StandingSession}
 use Rattle.link_window.specs.Hearing.{OpensSession, BringsFragment, EndsSession, ChangesNothing}
 use Rattle.link_window.specs.Openings.{session_of}
+use Rattle.link_window.proofs.HeaderOutcomes.{early_for, early_is}
 use Rattle.link_window.specs.declared.heard.Opening.{Opening}
 use Rattle.link_window.specs.Views.{sent_fragment}
 use Rattle.link_window.specs.declared.fragment.Fragment.{Fragment}
@@ -65,7 +68,11 @@ module _ (d : List ℕ) (r : Received) (is : received d ≡ Ok r) where
   -- ---- before a session stands
 
   opens_early : (value : PayloadValue) (ssrc : ℕ) (s : Session) → session_by ssrc value ≡ Some s → early_outcome value ≡ outcomes.HeaderNew
-  opens_early value ssrc s e = grind arith
+  opens_early (Header high from body) ssrc s e = early_is ssrc body ∙ ap early_for e
+  opens_early (End high) ssrc s e = absurd (none-some s e)
+  opens_early (Skip high code) ssrc s e = absurd (none-some s e)
+  opens_early (Params head from body) ssrc s e = absurd (none-some s e)
+  opens_early (Slices head count x y from body) ssrc s e = absurd (none-some s e)
 
   pub opens_first : (o : Opening) → session_by r.ssrc r.value ≡ Some (session_of o) → OpensSession None d o
   opens_first o opens = grind (arith, begins_is, opens_early, outcome_is)

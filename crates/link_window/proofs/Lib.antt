@@ -1,4 +1,5 @@
 pub mod SessionWindows
+pub mod HeaderOutcomes
 pub mod DatagramSteps
 pub mod BroughtJobs
 pub mod WindowJobs

@@ -1,12 +1,14 @@
 use crate::Fragment;
 use link_model::Outcome;
-use vc_types::Header;
+use vc_types::{Header, Presentation};
 
-/// The session that a datagram opens: whose datagrams count, and the header of its sequence.
+/// The session that a datagram opens: whose datagrams count, the header of its sequence, and how its frames are
+/// meant to be shown.
 #[derive(Clone, Copy)]
 pub struct Opening {
     pub ssrc: u32,
     pub header: Header,
+    pub presentation: Presentation,
 }
 
 /// What a datagram is to the session that stands.

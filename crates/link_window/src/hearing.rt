@@ -13,8 +13,8 @@ use crate::standing::Standing;
 use crate::{Fragment, Part, SlicePart};
 use bytes::Bytes;
 use link_model::Outcome;
-use vc_seqhdr::read_header;
-use vc_types::NoMemory;
+use vc_seqhdr::read_whole_header_of;
+use vc_types::{HIGH_QUALITY_PROFILE, NoMemory};
 use vc2_payload::Payload;
 
 /// What a datagram is to the session that stands, if one does. The body of a fragment is shared
@@ -53,10 +53,11 @@ fn opening(packet: &Packet<'_>) -> Option<Opening>
     let Payload::Header { body, .. } = packet.payload else {
         return None;
     };
-    match read_header(body) {
-        Ok((header, _)) => Some(Opening {
+    match read_whole_header_of(HIGH_QUALITY_PROFILE, body) {
+        Ok(whole) => Some(Opening {
             ssrc: packet.ssrc,
-            header,
+            header: whole.header,
+            presentation: whole.presentation,
         }),
         Err(_) => None,
     }

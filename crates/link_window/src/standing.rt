@@ -1,5 +1,5 @@
 ghost use Rattle.std.specs.Prelude.{◌≡◌, ◌≤◌, ◌<◌, ◌+◌, ◌-◌, ◌^◌, ◌&&◌, ℕ, List, IfOk, IfSome, OnOk};
-ghost use Rattle.std.specs.Prelude.{Some, None, true, false, length, map};
+ghost use Rattle.std.specs.Prelude.{Ok, Some, None, true, false, length, map};
 ghost use Rattle.std.specs.Option.{option_copied, option_map, option_map_or};
 ghost use Rattle.machine_model.specs.Feeding.{is_same_job};
 ghost use Rattle.link_model.specs.Judgement.{header_outcome};
@@ -13,7 +13,8 @@ ghost use Rattle.link_slices.specs.Jobs.{job_in_run, job_of, jobs_of_run};
 ghost use Rattle.std.specs.List.{list_all};
 ghost use Rattle.link_window.specs.Openings.{session_of};
 ghost use Rattle.link_window.specs.Views.{sent_fragment, releasable_of};
-ghost use Rattle.vc_types.specs.SequenceHeader.{coded_header, sequence_of};
+ghost use Rattle.vc_types.specs.SequenceHeader.{coded_header, coded_whole_header_of};
+ghost use Rattle.vc_types.specs.SequenceHeader.{high_quality_profile, sequence_of};
 
 use crate::heard::Opening;
 use crate::jobs::{has_job, has_run, has_slice_of, jobs_of};
@@ -23,14 +24,15 @@ use link_model::Outcome;
 use std::alloc::Global;
 use std::marker::Model;
 use vc_slice::{RunJob, SliceJob};
-use vc_types::{Header, NoMemory};
+use vc_types::{Header, NoMemory, Presentation};
 
-/// The session that stands: its source and its sequence, whether it has had its end, and its
-/// window.
+/// The session that stands: its source, its sequence, how its frames are meant to be shown, whether it has had
+/// its end, and its window.
 #[derive(Drop)]
 pub struct Standing {
     alloc: Global,
     ssrc: u32,
+    presentation: Presentation,
     has_ended: bool,
     window: Window,
 }
@@ -45,6 +47,7 @@ impl Model for Standing {
       session = record {
         ssrc = s.ssrc;
         sequence = s.window.sequence;
+        presentation = s.presentation;
       };
       has_ended = s.has_ended;
       window = s.window;
@@ -76,6 +79,7 @@ impl Standing {
         Standing {
             alloc,
             ssrc: opening.ssrc,
+            presentation: opening.presentation,
             has_ended: false,
             window: Window::after(alloc, opening.header, size, greatest),
         }
@@ -86,6 +90,13 @@ impl Standing {
         ensures { sequence_of result.now ≡ self.now.session.sequence }
     {
         self.window.header()
+    }
+
+    /// How the session's frames are meant to be shown, as the header that opened it says.
+    pub fn presentation(&self) -> &Presentation
+        ensures { result.now ≡ self.now.session.presentation }
+    {
+        &self.presentation
     }
 
     pub(crate) fn ssrc(&self) -> u32
@@ -120,13 +131,25 @@ impl Standing {
     /// The outcome of a sequence header of the session's source that opens no session.
     pub(crate) fn header_outcome(&self, opening: Option<Opening>) -> Outcome
         ensures { (ssrc : ℕ) (body : List ℕ)
-            → option_map session_of opening ≡ session_with ssrc (coded_header body)
+            → option_map session_of opening
+            ≡ session_with ssrc (coded_whole_header_of high_quality_profile body)
             → result ≡ header_outcome self.now.session.sequence (coded_header body) }
     {
         match opening {
-            Some(opening) if self.header().is_same(&opening.header) => Outcome::HeaderSame,
-            Some(_) => Outcome::HeaderOther,
+            Some(opening) => self.outcome_of(&opening.header),
             None => Outcome::HeaderBad,
+        }
+    }
+
+    // The outcome of a header that was read.
+    fn outcome_of(&self, header: &Header) -> Outcome
+        ensures { (used : ℕ) → result
+            ≡ header_outcome self.now.session.sequence (Ok (sequence_of header.now, used)) }
+    {
+        if self.header().is_same(header) {
+            Outcome::HeaderSame
+        } else {
+            Outcome::HeaderOther
         }
     }
 
