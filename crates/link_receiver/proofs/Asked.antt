@@ -1,15 +1,14 @@
 -- Calls of places one after another, none of which starts workers.
 use Rattle.std.proofs.Common.{◌≡◌, ℕ, List, [], ◌∷◌, refl, Option, Ok, Err, sym, subst, ◌∙◌}
 use Rattle.std.specs.Prelude.{Result, IfOk, OnErr}
-use Rattle.machine_model.specs.Places.{Job}
 use Rattle.receiver_model.specs.Receptions.{Reception, RunOut}
 use Rattle.link_receiver.specs.Exchanged.{IsExchanged, KeepsPlaces}
 use Rattle.link_receiver.specs.HeardLists.{AskedPlaces}
-use Rattle.link_receiver.specs.Offers.{IsOneOffer, proposed_in}
 pub use Rattle.link_slices.proofs.Growing.{grows_none, grows_twice}
-use Rattle.link_slices.specs.Calls.{PlaceCall, PlacesAreBelow, Puts, Takes, Withdraws, Makes, told_of, exchanges_of}
+use Rattle.link_slices.specs.Calls.{PlaceCall, PlacesAreBelow, Puts, Takes, Withdraws, Makes, told_of, is_handed_back}
 use Rattle.vc_slice.specs.Asked.{Told, Grows, nothing_told, told_more, taking, withdrawing}
 use Rattle.vc_slice.specs.declared.run.RunDone.{RunDone}
+use Rattle.vc_slice.specs.declared.run.RunJob.{RunJob}
 use Rattle.vc_slice.specs.declared.run.RunLoad.{RunLoad}
 use Rattle.vc_types.specs.declared.memory.NoMemory.{NoMemory}
 
@@ -48,12 +47,12 @@ asked_take a b place answer grew =
 
 -- a run is put, or there was no memory for that
 pub asked_put : {X : Type 0} (told : X → Option Told) (x y : X) {S : Type 0} (s t : S)
-    (result : Result (Option RunLoad) NoMemory) (old new : Reception) (jobs : List Job)
-    → IfOk result (λ back. (calls : List PlaceCall) × IsExchanged (told x) (told y) old new calls
-    × IsOneOffer jobs back (proposed_in (exchanges_of calls)))
+    (result : Result (Option RunLoad) NoMemory) (old new : Reception) (run : RunJob)
+    → IfOk result (λ back. (answer : Option ℕ) × IsExchanged (told x) (told y) old new (Puts run answer ∷ [])
+    × is_handed_back answer back)
     → OnErr result ((t ≡ s) × (y ≡ x)) → AskedPlaces (told x) (told y)
-asked_put told x y s t (Ok back) old new jobs h e = asked_calls (told x) (told y) old new h.0 h.1
-asked_put told x y s t (Err fault) old new jobs h e =
+asked_put told x y s t (Ok back) old new run h e = asked_calls (told x) (told y) old new (Puts run h.0 ∷ []) h.1
+asked_put told x y s t (Err fault) old new run h e =
     subst (λ z. AskedPlaces (told x) (told z)) (sym e.1) (asked_none (told x))
 
 -- ---- with the bound, and what is out

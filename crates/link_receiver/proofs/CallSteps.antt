@@ -1,22 +1,22 @@
 -- Calls of places, by the steps that make them.
-use Rattle.std.proofs.Common.{◌≡◌, ℕ, suc, Bool, true, List, [], ◌∷◌, ◌++◌, take, Option, Some, None, Result, Ok, Err, refl, ap, sym, ◌∙◌, subst, inl, append-nil, rules, arith}
-use Rattle.std.specs.Prelude.{OnOk, is_some}
+use Rattle.std.proofs.Common.{◌≡◌, ℕ, suc, true, false, List, [], ◌∷◌, ◌++◌, take, Option, Some, None}
+use Rattle.std.proofs.Common.{Result, Ok, Err, refl, ap, sym, ◌∙◌, subst, inl, inr, append-nil, append_assoc, arith}
+use Rattle.std.specs.Prelude.{◌⊎◌, OnOk, is_some}
 use Rattle.std.specs.List.{flat_map}
-use Rattle.std.specs.Option.{option_and_then}
 use Rattle.std.proofs.lemmas.Bool.{false≢true}
-use Rattle.link_model.specs.Windows.{Releasable, next_release}
-use Rattle.machine_model.specs.Places.{Job, Answered}
-use Rattle.receiver_model.specs.Exchanging.{Exchange, Proposed, Fetched, Withdrawn, Made, exchanged, all_exchanged, back_from, takes_done, takes_dones}
-use Rattle.receiver_model.specs.Receptions.{Reception, StandingSession, RunOut}
+use Rattle.link_model.specs.Windows.{Releasable}
+use Rattle.machine_model.specs.Places.{Job}
+use Rattle.receiver_model.specs.Exchanging.{Exchange, Proposed, Made, takes_dones}
+use Rattle.receiver_model.specs.Receptions.{Reception}
 use Rattle.receiver_model.specs.Releasing.{next_picture}
-use Rattle.receiver_model.specs.Standing.{AreDecodings}
-use Rattle.link_receiver.proofs.Exchanges.{calls_then, exchanges_of-append, no_call, one_make}
-use Rattle.link_receiver.proofs.Offered.{proposed_in-append, offers_more, offers_again, once_more, only_once}
+use Rattle.link_receiver.proofs.Exchanges.{calls_then, exchanges_of-append, handed_on, makes_behind}
+use Rattle.link_receiver.proofs.SameSession.{HaveSameSession, all_exchanged-session, same_next}
+use Rattle.link_receiver.proofs.Offered.{proposed_in-append, offers_more}
 use Rattle.link_receiver.proofs.Stays.{AreAskedOrIn, one_asked, all_asked, asked_before, asked_then}
 use Rattle.link_receiver.specs.Exchanged.{IsExchanged}
-use Rattle.link_receiver.specs.Offers.{AreOffersOf, AreRunOffers, IsOfferOf, IsOneOffer, MayOffer, proposed_in, asked_in, asked_at, are_asked}
-use Rattle.link_slices.specs.Calls.{PlaceCall, Makes, exchanges_of}
-use Rattle.link_slices.specs.Jobs.{jobs_of_run}
+use Rattle.link_receiver.specs.Offers.{AreOffersOf, AreRunOffers, IsOfferOf, MakesHandedBack, proposed_in, asked_in, asked_at, are_asked}
+use Rattle.link_slices.specs.Calls.{PlaceCall, Makes, Puts, exchanges_of, is_handed_back}
+use Rattle.link_slices.specs.Jobs.{jobs_of_run, made_run}
 use Rattle.vc_slice.specs.Asked.{Told}
 use Rattle.vc_slice.specs.declared.run.RunJob.{RunJob}
 use Rattle.vc_slice.specs.declared.run.RunLoad.{RunLoad}
@@ -32,6 +32,15 @@ proposed_then : (x y : List PlaceCall) → proposed_in (exchanges_of (x ++ y))
     ≡ proposed_in (exchanges_of x) ++ proposed_in (exchanges_of y)
 proposed_then x y = ap proposed_in (exchanges_of-append x y)
     ∙ proposed_in-append (exchanges_of x) (exchanges_of y)
+
+pub calls_session : (a b : Option Told) (r s : Reception) (calls : List PlaceCall)
+    → IsExchanged a b r s calls → HaveSameSession r s
+calls_session a b r s calls h = subst (HaveSameSession r) (sym h.value)
+    (all_exchanged-session r (exchanges_of calls))
+
+pub same_next_picture : (a b : Option Told) (r s : Reception) (calls : List PlaceCall)
+    → IsExchanged a b r s calls → next_picture s ≡ next_picture r
+same_next_picture a b r s calls h = same_next r s (calls_session a b r s calls h)
 
 -- ---- every place is asked, from the last slice on
 
@@ -74,10 +83,11 @@ abbrev pub OffersRun : Option Told → Option Told → Reception → Reception �
 OffersRun a b old new jobs = (calls : List PlaceCall) × IsExchanged a b old new calls
     × IsOfferOf jobs (proposed_in (exchanges_of calls))
 
-abbrev pub Proposes : Option Told → Option Told → Reception → Reception → List Job
+-- a run was put once
+abbrev pub Proposes : Option Told → Option Told → Reception → Reception → RunJob
     → Option RunLoad → Type 0
-Proposes a b old new jobs back = (calls : List PlaceCall) × IsExchanged a b old new calls
-    × IsOneOffer jobs back (proposed_in (exchanges_of calls))
+Proposes a b old new run back = (answer : Option ℕ) × IsExchanged a b old new (Puts run answer ∷ [])
+    × is_handed_back answer back
 
 -- calls that offer nothing
 abbrev pub OffersNothing : Option Told → Option Told → Reception → Reception → Type 0
@@ -98,60 +108,101 @@ nothing_twice a b c r s t h m = (
   behind_nothing h.0 m.0 h.2 ∙ m.2,
 )
 
-abbrev pub MayPropose : Option Told → Option Told → Reception → Reception → List Job → Type 0
-MayPropose a b old new jobs = (calls : List PlaceCall) × IsExchanged a b old new calls
-    × MayOffer jobs (proposed_in (exchanges_of calls))
+-- ---- a run that was handed back, and is decoded here or offered again
 
-pub may_nothing : (a b : Option Told) (r s : Reception) (jobs : List Job) → OffersNothing a b r s
-    → MayPropose a b r s jobs
-may_nothing a b r s jobs h = (h.0, h.1, inl h.2)
+pub offered_once : (a b : Option Told) (r s : Reception) (run : RunJob) (back : Option RunLoad)
+    → Proposes a b r s run back → OffersRun a b r s (jobs_of_run run)
+offered_once a b r s run back (answer, h, is) = (Puts run answer ∷ [], h, inl (answer, refl))
 
-pub nothing_then : (a b c : Option Told) (r s t : Reception) (jobs : List Job)
-    → OffersNothing a b r s → MayPropose b c s t jobs → MayPropose a c r t jobs
-nothing_then a b c r s t jobs h m = (
-  h.0 ++ m.0,
-  calls_then a b c r s t h.0 m.0 h.1 m.1,
-  subst (MayOffer jobs) (sym (behind_nothing h.0 m.0 h.2)) m.2,
+-- it was put, and behind that places were asked
+abbrev pub Hands : Option Told → Option Told → Reception → Reception → RunJob → Type 0
+Hands a b old new run = (calls : List PlaceCall) × IsExchanged a b old new calls
+    × (is_some (next_picture old) ≡ false → (rest : List Exchange)
+    → MakesHandedBack (jobs_of_run run) rest → MakesHandedBack [] (exchanges_of calls ++ rest))
+    × ((more : List PlaceCall) → proposed_in (exchanges_of (calls ++ more))
+    ≡ Proposed (jobs_of_run run) None ∷ proposed_in (exchanges_of more))
+
+pub hands_back : (a b : Option Told) (r s : Reception) (run : RunJob) (back : RunLoad)
+    → Proposes a b r s run (Some back) → Hands a b r s run
+hands_back a b r s run back (None, h, is) =
+    (Puts run None ∷ [], h, λ none rest made. made, λ more. refl)
+hands_back a b r s run back (Some place, h, is) = absurd (cc is)
+
+pub hands_then : (a b c : Option Told) (r s t : Reception) (run : RunJob) → Hands a b r s run
+    → OffersNothing b c s t → Hands a c r t run
+hands_then a b c r s t run (calls, h, handing, puts) (asks, m, none) = (
+  calls ++ asks,
+  calls_then a b c r s t calls asks h m,
+  λ not rest made. subst (MakesHandedBack []) (sym (both rest))
+      (handing not (exchanges_of asks ++ rest)
+      (handed_on (jobs_of_run run) (exchanges_of asks) rest none
+      (m.little (ap is_some (same_next_picture a b r s calls h) ∙ not)) made)),
+  λ more. ap (λ (l : List PlaceCall). proposed_in (exchanges_of l)) (append_assoc calls asks more)
+      ∙ puts (asks ++ more)
+      ∙ ap (λ (l : List Exchange). Proposed (jobs_of_run run) None ∷ l) (behind_nothing asks more none),
+)
+  where
+    both : (rest : List Exchange) → exchanges_of (calls ++ asks) ++ rest
+        ≡ exchanges_of calls ++ (exchanges_of asks ++ rest)
+    both rest = ap (λ (l : List Exchange). l ++ rest) (exchanges_of-append calls asks)
+        ∙ append_assoc (exchanges_of calls) (exchanges_of asks) rest
+
+-- it is decoded here, or isn't
+abbrev pub IsMade : Reception → Reception → RunJob → Type 0
+IsMade old new run = (new ≡ old) ⊎ (new ≡ takes_dones old (made_run run))
+
+abbrev HandsAndMakes : Option Told → Option Told → Reception → Reception → RunJob → Type 0
+HandsAndMakes a b old new run = (calls : List PlaceCall) × IsExchanged a b old new calls
+    × (proposed_in (exchanges_of calls) ≡ Proposed (jobs_of_run run) None ∷ [])
+
+hands_only : (a b : Option Told) (r s : Reception) (run : RunJob) → Hands a b r s run
+    → HandsAndMakes a b r s run
+hands_only a b r s run (calls, h, handing, puts) = (
+  calls,
+  h,
+  ap (λ (l : List PlaceCall). proposed_in (exchanges_of l)) (sym (append-nil calls)) ∙ puts [],
 )
 
-pub may_once : (a b : Option Told) (r s : Reception) (jobs : List Job) (back : Option RunLoad)
-    → Proposes a b r s jobs back → MayPropose a b r s jobs
-may_once a b r s jobs back h =
-    (h.0, h.1, once_more jobs back (proposed_in (exchanges_of h.0)) h.2)
-
-pub offers_once : (a b : Option Told) (r s : Reception) (jobs : List Job) (back : Option RunLoad)
-    → Proposes a b r s jobs back → OffersRun a b r s jobs
-offers_once a b r s jobs back h =
-    (h.0, h.1, only_once jobs back (proposed_in (exchanges_of h.0)) h.2)
-
--- jobs that are decoded here
-abbrev pub IsMade : Reception → Reception → Type 0
-IsMade old new = (dones : List Answered) × AreDecodings dones × (new ≡ takes_dones old dones)
-
--- behind other calls, of which they change no offer
-pub makes_then : (a b : Option Told) (r s t : Reception) (P : List Exchange → Type 0)
-    → ((calls : List PlaceCall) × IsExchanged a b r s calls
-    × P (proposed_in (exchanges_of calls))) → IsMade s t
-    → (calls : List PlaceCall) × IsExchanged a b r t calls
-    × P (proposed_in (exchanges_of calls))
-makes_then a b r s t P h m = (
-  h.0 ++ Makes m.0 ∷ [],
-  calls_then a b b r s t h.0 (Makes m.0 ∷ []) h.1 (one_make b s t m.0 m.1 m.2),
-  subst P (sym (proposed_then h.0 (Makes m.0 ∷ [])
-      ∙ append-nil (proposed_in (exchanges_of h.0)))) h.2,
+hands_made : (a b : Option Told) (r s t : Reception) (run : RunJob) → Hands a b r s run
+    → IsMade s t run → HandsAndMakes a b r t run
+hands_made a b r s t run h (inl same) =
+    subst (λ (x : Reception). HandsAndMakes a b r x run) (sym same) (hands_only a b r s run h)
+hands_made a b r s t run (calls, h, handing, puts) (inr made) = (
+  calls ++ Makes (made_run run) ∷ [],
+  makes_behind a b r s t calls run h (λ none. handing none (Made (made_run run) ∷ []) (inr refl, tt)) made,
+  puts (Makes (made_run run) ∷ []),
 )
 
-pub offer_calls : (result : Result Bool NoMemory) (a b c : Option Told) (r s t : Reception)
-    (jobs : List Job) (back : RunLoad) → jobs_of_run back.job ≡ jobs → Proposes a b r s jobs (Some back)
-    → OnOk result (MayPropose b c s t (jobs_of_run back.job)) → OnOk result (OffersRun a c r t jobs)
-offer_calls (Err e) a b c r s t jobs back same h m = tt
-offer_calls (Ok came) a b c r s t jobs back same h m = (
-  h.0 ++ m.0,
-  calls_then a b c r s t h.0 m.0 h.1 m.1,
-  subst (IsOfferOf jobs) (sym (proposed_then h.0 m.0))
-      (offers_again jobs (proposed_in (exchanges_of h.0)) (proposed_in (exchanges_of m.0)) h.2
-      (subst (λ (l : List Job). MayOffer l (proposed_in (exchanges_of m.0))) same m.2)),
+pub made_once : (a b : Option Told) (r s t : Reception) (run : RunJob) → Hands a b r s run
+    → IsMade s t run → OffersRun a b r t (jobs_of_run run)
+made_once a b r s t run h m =
+    let all = hands_made a b r s t run h m in (all.0, all.1, inl (None, all.2))
+
+-- it is offered a second time, and may be decoded then
+twice : (a b c : Option Told) (r s t : Reception) (run : RunJob) (place : Option ℕ)
+    (more : List PlaceCall) → Hands a b r s run → IsExchanged b c s t more
+    → proposed_in (exchanges_of more) ≡ Proposed (jobs_of_run run) place ∷ []
+    → OffersRun a c r t (jobs_of_run run)
+twice a b c r s t run place more (calls, h, handing, puts) m one = (
+  calls ++ more,
+  calls_then a b c r s t calls more h m,
+  inr (
+    place,
+    puts more ∙ ap (λ (l : List Exchange). Proposed (jobs_of_run run) None ∷ l) one,
+  ),
 )
+
+pub offered_twice : (a b c : Option Told) (r s t : Reception) (run : RunJob) (back : Option RunLoad)
+    → Hands a b r s run → Proposes b c s t run back → OffersRun a c r t (jobs_of_run run)
+offered_twice a b c r s t run back h (answer, m, is) =
+    twice a b c r s t run answer (Puts run answer ∷ []) h m refl
+
+pub made_twice : (a b c : Option Told) (r s t u : Reception) (run : RunJob) (back : RunLoad)
+    → Hands a b r s run → Proposes b c s t run (Some back) → IsMade t u run
+    → OffersRun a c r u (jobs_of_run run)
+made_twice a b c r s t u run back h p m =
+    let all = hands_made b c s t u run (hands_back b c s t run back p) m in
+    twice a b c r s u run None all.0 h all.1 all.2
 
 abbrev pub Offers : Option Told → Option Told → Reception → Reception → List RunJob → Type 0
 Offers a b old new runs = (calls : List PlaceCall) × IsExchanged a b old new calls
@@ -175,58 +226,6 @@ OffersJobs a b old new jobs = (calls : List PlaceCall) × IsExchanged a b old ne
 pub offers_all : (a b : Option Told) (old new : Reception) (runs : List RunJob) (jobs : List Job)
     → flat_map jobs_of_run runs ≡ jobs → Offers a b old new runs → OffersJobs a b old new jobs
 offers_all a b old new runs jobs e h = (h.0, h.1, (runs, e, h.2))
-
--- ---- exchanges leave the session
-
--- what exchanges leave as it is
-pub record HaveSameSession (r s : Reception) : Type 0 where
-  pub standing : s.standing ≡ r.standing
-  pub field : s.field ≡ r.field
-  pub size : s.size ≡ r.size
-  pub has_ended : s.has_ended ≡ r.has_ended
-
-takes_done-session : (r : Reception) (out : List RunOut) (done : Answered)
-    → HaveSameSession r (takes_done (record r { out = out }) done)
-unfolding takes_done
-takes_done-session r out done = grind arith
-
-same_twice : (r s t : Reception) → HaveSameSession r s → HaveSameSession s t → HaveSameSession r t
-same_twice r s t h m = record {
-  standing = m.standing ∙ h.standing;
-  field = m.field ∙ h.field;
-  size = m.size ∙ h.size;
-  has_ended = m.has_ended ∙ h.has_ended;
-}
-
-takes_dones-session : (r : Reception) (dones : List Answered) → HaveSameSession r (takes_dones r dones)
-takes_dones-session r [] = search rules
-takes_dones-session r (done ∷ dones) =
-    same_twice r (takes_done r done) (takes_dones r (done ∷ dones)) (takes_done-session r r.out done)
-    (takes_dones-session (takes_done r done) dones)
-
-exchanged-session : (r : Reception) (e : Exchange) → HaveSameSession r (exchanged r e)
-exchanged-session r (Proposed jobs None) = search rules
-exchanged-session r (Proposed jobs (Some place)) = search rules
-exchanged-session r (Fetched place None) = search rules
-exchanged-session r (Fetched place (Some dones)) =
-    same_twice r (back_from r place) (takes_dones (back_from r place) dones) (search rules)
-    (takes_dones-session (back_from r place) dones)
-exchanged-session r (Withdrawn place) = search rules
-exchanged-session r (Made dones) = takes_dones-session r dones
-
-pub all_exchanged-session : (r : Reception) (es : List Exchange)
-    → HaveSameSession r (all_exchanged r es)
-all_exchanged-session r [] = search rules
-all_exchanged-session r (e ∷ es) = grind (arith, exchanged-session, all_exchanged-session (exchanged r e) es)
-
-pub calls_session : (a b : Option Told) (r s : Reception) (calls : List PlaceCall)
-    → IsExchanged a b r s calls → HaveSameSession r s
-calls_session a b r s calls h = subst (HaveSameSession r) (sym h.value)
-    (all_exchanged-session r (exchanges_of calls))
-
-pub same_next : (r s : Reception) → HaveSameSession r s → next_picture s ≡ next_picture r
-same_next r s h = ap (λ (standing : Option StandingSession).
-    option_and_then (λ (st : StandingSession). next_release st.window) standing) h.standing
 
 -- ---- a whole exchange
 
@@ -269,7 +268,7 @@ asks_then a b c r s t h m = (
 -- the picture that is next stays so
 pub still_next : (a b : Option Told) (r s : Reception) → TakesBack a b r s
     → next_picture s ≡ next_picture r
-still_next a b r s h = same_next r s (calls_session a b r s h.0 h.1)
+still_next a b r s h = same_next_picture a b r s h.0 h.1
 
 pub exchanges_then : {A : Type 0} (result : Result A NoMemory) (a b c : Option Told)
     (r s t : Reception) (jobs : List Job) → OffersJobs a b r s jobs
@@ -285,5 +284,5 @@ exchanges_then (Ok done) a b c r s t jobs h m = (
       (sym (exchanges_of-append h.0 m.0))
       (asked_then r (exchanges_of h.0) (exchanges_of m.0)
       (subst (λ (x : Reception). are_asked x.out (exchanges_of m.0) ≡ true) h.1.value
-      (m.3 (ap is_some (same_next r s (calls_session a b r s h.0 h.1)) ∙ some)))),
+      (m.3 (ap is_some (same_next_picture a b r s h.0 h.1) ∙ some)))),
 )

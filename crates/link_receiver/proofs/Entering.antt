@@ -15,7 +15,8 @@ use Rattle.receiver_model.specs.Standing.{AreDecodings}
 use Rattle.receiver_model.specs.WholeBooks.{ArePicturePlanes}
 use Rattle.link_window.specs.Openings.{session_of}
 use Rattle.link_window.specs.declared.heard.Opening.{Opening}
-use Rattle.link_receiver.proofs.CallSteps.{Exchanges, TakesBack, HaveSameSession, calls_session}
+use Rattle.link_receiver.proofs.CallSteps.{Exchanges, TakesBack, calls_session}
+use Rattle.link_receiver.proofs.SameSession.{HaveSameSession}
 use Rattle.link_receiver.specs.Entered.{IsEntered, IsDrained}
 use Rattle.link_receiver.specs.Freeing.{all_freed_places}
 use Rattle.link_receiver.specs.Offers.{AreOffersOf, proposed_in, are_asked}
@@ -243,6 +244,8 @@ module _ {a b : Option Told} (old : Reception) {kept exchanged : Reception} (d :
           decodings = x.1.decodings;
           offered = subst (λ (l : List Job). AreOffersOf l (proposed_in (exchanges_of x.0))) j x.2;
           asked = asked_for;
+          little = λ none. x.1.little
+              (ap (λ (r : Reception). is_some (next_picture r)) k ∙ none);
         },
       )
 
@@ -336,5 +339,7 @@ module _ {a b : Option Told} (old : Reception) {ended exchanged : Reception}
             asked = λ some. subst (λ (r : List RunOut). are_asked r (exchanges_of x.0) ≡ true)
                 (ap (λ (r : Reception). r.out) k)
                 (x.3 (ap (λ (r : Reception). is_some (next_picture r)) k ∙ some));
+            little = λ none. x.1.little
+                (ap (λ (r : Reception). is_some (next_picture r)) k ∙ none);
           },
         )

@@ -1,3 +1,4 @@
+pub mod SameSession
 pub mod Exchanges
 pub mod Asked
 pub mod KeptRuns

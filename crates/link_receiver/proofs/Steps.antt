@@ -1,22 +1,21 @@
 -- What one step on a receiver's parts is on its value.
-use Rattle.std.proofs.Common.{◌≡◌, ℕ, List, [], ◌∷◌, Option, Some, None, Result, Ok, Err, refl, ap, ◌∙◌, arith}
-use Rattle.std.specs.Prelude.{filter, IfSome, IfOk}
+use Rattle.std.proofs.Common.{◌≡◌, ℕ, true, List, [], ◌∷◌, Option, Some, None, Result, Ok, Err, refl, ap, ◌∙◌, arith}
+use Rattle.std.specs.Prelude.{filter, is_some, IfSome, IfOk}
 use Rattle.std.specs.Option.{option_copied}
 use denote.Ref.{Bor}
 use Rattle.link_model.specs.Books.{Book}
 use Rattle.link_model.specs.Windows.{Releasable}
 use Rattle.receiver_model.specs.Exchanging.{Proposed, exchanged, takes_dones, not_at}
 use Rattle.receiver_model.specs.Receptions.{Reception, RunOut, StandingSession}
+use Rattle.receiver_model.specs.Releasing.{next_picture}
 use Rattle.receiver_model.specs.WholeBooks.{IsWholeBook}
 use Rattle.link_receiver.proofs.CallSteps.{OffersNothing}
 use Rattle.link_receiver.proofs.Exchanges.{one_put, one_take, made_decodings, taken_over}
 use Rattle.link_receiver.specs.Exchanged.{IsExchanged}
-use Rattle.link_receiver.specs.Offers.{IsOneOffer, proposed_in}
 use Rattle.link_pictures.specs.Completing.{IsWholeBySome}
-use Rattle.link_slices.specs.Calls.{PlaceCall, Puts, Takes, Withdraws, Makes, exchanges_of, out_exchanged, is_handed_back}
+use Rattle.link_slices.specs.Calls.{Puts, Takes, Withdraws, Makes, out_exchanged, is_handed_back}
 use Rattle.link_slices.specs.Jobs.{answered_run, jobs_of_run, made_run}
 use Rattle.machine_model.specs.Places.{Job}
-use Rattle.std.proofs.lemmas.Bool.{false≢true}
 use Rattle.link_receiver.specs.Shown.{shown_bytes}
 use Rattle.link_pictures.specs.Outputs.{released_output}
 use Rattle.link_pictures.specs.Writing.{WrittenStream}
@@ -53,21 +52,16 @@ pub put_calls : (r : Result (Option RunLoad) NoMemory) (before behind : Option T
     → IfOk r (λ back. (answer : Option ℕ) × Grows before behind (one_offer run answer)
     × (out ≡ out_exchanged old.out (Proposed (jobs_of_run run) answer))
     × is_handed_back answer back)
-    → IfOk r (λ back. (calls : List PlaceCall)
-    × IsExchanged before behind old (record old { out = out }) calls
-    × IsOneOffer (jobs_of_run run) back (proposed_in (exchanges_of calls)))
+    → IfOk r (λ back. (answer : Option ℕ)
+    × IsExchanged before behind old (record old { out = out }) (Puts run answer ∷ [])
+    × is_handed_back answer back)
 put_calls (Err e) before behind old out run h = tt
 put_calls (Ok back) before behind old out run h = (
-  Puts run h.0 ∷ [],
-  one_put before behind old (record old { out = out }) run h.0 h.1 (put_value old out (jobs_of_run run) h.0 h.2),
-  by_answer h.0 back h.3,
+  h.0,
+  one_put before behind old (record old { out = out }) run h.0 h.1
+      (put_value old out (jobs_of_run run) h.0 h.2),
+  h.3,
 )
-  where
-    by_answer : (answer : Option ℕ) (back : Option RunLoad) → is_handed_back answer back
-        → IsOneOffer (jobs_of_run run) back (proposed_in (exchanges_of (Puts run answer ∷ [])))
-    by_answer None None e = absurd (false≢true e)
-    by_answer None (Some load) e = refl
-    by_answer (Some place) back e = rw e (place, refl)
 
 -- ---- a place is asked
 
@@ -90,12 +84,13 @@ take_none before behind old out place told e = grind (arith, one_take)
 
 pub takes_over : (before behind : Option Told) (old : Reception) (out : List RunOut)
     (new : Reception) (place : ℕ) (run : RunJob)
+    → is_some (next_picture old) ≡ true
     → Grows before behind (leaving place) → out ≡ filter (not_at place) old.out
     → new ≡ takes_dones (record old { out = out }) (made_run run)
     → OffersNothing before behind old new
-takes_over before behind old out new place run told e value = (
+takes_over before behind old out new place run released told e value = (
   Withdraws place ∷ Makes (made_run run) ∷ [],
-  taken_over before behind old new place (made_run run) told (made_decodings run)
+  taken_over before behind old new place (made_run run) released told (made_decodings run)
       (value ∙ ap (λ (o : List RunOut). takes_dones (record old { out = o }) (made_run run)) e),
   refl,
 )

@@ -14,7 +14,7 @@ use Rattle.link_pictures.specs.Writing.{WrittenStream}
 use Rattle.vc_ports.specs.Writing.{Grew}
 use Rattle.vc_slice.specs.Asked.{Told, told_more, Grows}
 use Rattle.link_receiver.specs.Freeing.{all_freed_places}
-use Rattle.link_receiver.specs.Offers.{AreOffersOf, proposed_in, are_asked}
+use Rattle.link_receiver.specs.Offers.{AreOffersOf, DecodesLittle, proposed_in, are_asked}
 
 -- what places told before and behind a call, what a sink held, and the stream that is written
 pub record Outside : Type 0 where
@@ -38,7 +38,8 @@ outside_of told held places places_behind sink sink_behind stream stream_behind 
 
 -- A datagram was taken, with these calls of places. Each slice that it brings was offered, and a
 -- second time only where it was handed back; where it lets a picture be released, the places of all
--- slices that were out were asked; then the places of the released pictures were freed.
+-- slices that were out were asked; where it doesn't, slices were decoded here only of a run that was
+-- handed back, and none was taken back that waits; then the places of the released pictures were freed.
 pub record IsEntered (outside : Outside) (old new : Reception) (datagram : List ℕ)
     (outcome : Outcome) (calls : List PlaceCall) : Type 0 where
   pub told : Grows outside.told_before outside.told_behind (told_more (told_of calls)
@@ -53,6 +54,7 @@ pub record IsEntered (outside : Outside) (old new : Reception) (datagram : List 
   pub offered : AreOffersOf (datagram_jobs old datagram) (proposed_in (exchanges_of calls))
   pub asked : is_some (next_picture (keeps_datagram old datagram)) ≡ true
       → are_asked old.out (exchanges_of calls) ≡ true
+  pub little : DecodesLittle (keeps_datagram old datagram) (exchanges_of calls)
 
 -- The end of the input was taken. Nothing is offered then.
 pub record IsDrained (outside : Outside) (old new : Reception) (calls : List PlaceCall)
@@ -66,3 +68,4 @@ pub record IsDrained (outside : Outside) (old new : Reception) (calls : List Pla
   pub offered : proposed_in (exchanges_of calls) ≡ []
   pub asked : is_some (next_picture (ends_input old)) ≡ true
       → are_asked old.out (exchanges_of calls) ≡ true
+  pub little : DecodesLittle (ends_input old) (exchanges_of calls)

@@ -1,14 +1,14 @@
 -- What a receiver offers to places, and which places it asks.
-use Rattle.std.specs.Prelude.{◌≡◌, ◌⊎◌, ℕ, ◌==◌, Bool, List, [], ◌∷◌, ◌++◌, slice_get}
-use Rattle.std.specs.Prelude.{Option, Some, None}
+use Rattle.std.specs.Prelude.{◌≡◌, ◌⊎◌, ℕ, ◌==◌, Bool, false, List, [], ◌∷◌, ◌++◌, map, slice_get}
+use Rattle.std.specs.Prelude.{Option, Some, None, is_some, ⊤}
 use Rattle.std.specs.List.{flat_map, list_any, list_all}
 use Rattle.std.specs.Option.{option_map_or}
-use Rattle.machine_model.specs.Places.{Job}
+use Rattle.machine_model.specs.Places.{Job, own_answer}
 use Rattle.receiver_model.specs.Exchanging.{Exchange, Proposed, Fetched, Withdrawn, Made}
-use Rattle.receiver_model.specs.Receptions.{RunOut}
+use Rattle.receiver_model.specs.Receptions.{Reception, RunOut}
+use Rattle.receiver_model.specs.Releasing.{next_picture}
 use Rattle.link_slices.specs.Jobs.{jobs_of_run}
 use Rattle.vc_slice.specs.declared.run.RunJob.{RunJob}
-use Rattle.vc_slice.specs.declared.run.RunLoad.{RunLoad}
 
 abbrev pub proposed_by : Exchange → List Exchange
 proposed_by (Proposed jobs place) = Proposed jobs place ∷ []
@@ -25,15 +25,6 @@ abbrev pub IsOfferOf : List Job → List Exchange → Type 0
 IsOfferOf jobs offers = ((place : Option ℕ) × (offers ≡ Proposed jobs place ∷ []))
     ⊎ ((place : Option ℕ) × (offers ≡ Proposed jobs None ∷ Proposed jobs place ∷ []))
 
--- nothing, or the run once
-abbrev pub MayOffer : List Job → List Exchange → Type 0
-MayOffer jobs offers = (offers ≡ []) ⊎ ((place : Option ℕ) × (offers ≡ Proposed jobs place ∷ []))
-
--- the run once: it has a place, or it is handed back
-abbrev pub IsOneOffer : List Job → Option RunLoad → List Exchange → Type 0
-IsOneOffer jobs None offers = (place : ℕ) × (offers ≡ Proposed jobs (Some place) ∷ [])
-IsOneOffer jobs (Some back) offers = offers ≡ Proposed jobs None ∷ []
-
 -- each run in this order, a second time only where it was handed back
 abbrev pub AreRunOffers : List RunJob → List Exchange → Type 0
 AreRunOffers [] offers = offers ≡ []
@@ -44,6 +35,21 @@ AreRunOffers (run ∷ runs) offers = (first : List Exchange) × (rest : List Exc
 abbrev pub AreOffersOf : List Job → List Exchange → Type 0
 AreOffersOf jobs offers =
     (runs : List RunJob) × (flat_map jobs_of_run runs ≡ jobs) × AreRunOffers runs offers
+
+-- Slices are decoded here only of the run that was handed back last, and no run is taken back that waits.
+-- The jobs are those of that run.
+abbrev pub MakesHandedBack : (handed : List Job) → List Exchange → Type 0
+MakesHandedBack handed [] = ⊤
+MakesHandedBack handed (Proposed jobs None ∷ rest) = MakesHandedBack jobs rest
+MakesHandedBack handed (Proposed jobs (Some place) ∷ rest) = MakesHandedBack [] rest
+MakesHandedBack handed (Fetched place answer ∷ rest) = MakesHandedBack handed rest
+MakesHandedBack handed (Withdrawn place ∷ rest) = ⊥
+MakesHandedBack handed (Made dones ∷ rest) =
+    ((dones ≡ []) ⊎ (dones ≡ map own_answer handed)) × MakesHandedBack handed rest
+
+-- Where no picture may be released, nothing else is decoded here.
+abbrev pub DecodesLittle : Reception → List Exchange → Type 0
+DecodesLittle old exchanges = is_some (next_picture old) ≡ false → MakesHandedBack [] exchanges
 
 abbrev pub asked_by : Exchange → List ℕ
 asked_by (Proposed jobs place) = []

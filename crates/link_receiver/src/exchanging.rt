@@ -1,14 +1,14 @@
-ghost use Rattle.std.specs.Prelude.{◌≡◌, ◌<◌, List, [], true, IfOk, IfSome, OnOk, is_some, length, map};
+ghost use Rattle.std.specs.Prelude.{◌≡◌, ◌⊎◌, ◌<◌, ℕ, List, [], ◌∷◌, true, Option, IfOk, IfSome, OnOk, is_some};
+ghost use Rattle.std.specs.Prelude.{length, map};
 ghost use Rattle.std.specs.List.{list_all};
 ghost use Rattle.std.specs.Option.{option_map};
-ghost use Rattle.machine_model.specs.Places.{Answered, own_answer};
+ghost use Rattle.machine_model.specs.Places.{own_answer};
 ghost use Rattle.receiver_model.specs.Exchanging.{is_own, takes_done, takes_dones};
-ghost use Rattle.receiver_model.specs.Standing.{AreDecodings};
 ghost use Rattle.receiver_model.specs.Releasing.{next_picture};
 ghost use Rattle.link_receiver.specs.Exchanged.{IsExchanged, KeepsPlaces};
-ghost use Rattle.link_receiver.specs.Offers.{AreOffersOf, IsOfferOf, IsOneOffer, MayOffer, proposed_in};
+ghost use Rattle.link_receiver.specs.Offers.{AreOffersOf, IsOfferOf, proposed_in};
 ghost use Rattle.link_receiver.specs.Offers.{are_asked, asked_at, asked_in};
-ghost use Rattle.link_slices.specs.Calls.{PlaceCall, PlacesAreBelow, exchanges_of};
+ghost use Rattle.link_slices.specs.Calls.{PlaceCall, PlacesAreBelow, Puts, exchanges_of, is_handed_back};
 ghost use Rattle.link_slices.specs.Jobs.{answered_run, job_in_run, job_of, jobs_of_run, made_run};
 ghost use Rattle.link_window.specs.Views.{releasable_of};
 
@@ -95,7 +95,8 @@ impl<H: Threads + Copy> Reception<H> {
     }
 
     // Offers a run. Where it is handed back while something may come, the runs that are out longest are asked
-    // for, and if something came the run is offered once more. Answers whether something may still come.
+    // for, and if something came the run is offered once more. Where it is handed back still, it is decoded
+    // here. Answers whether something may still come.
     fn offer<P: Places>(
         &mut self,
         load: RunLoad,
@@ -115,18 +116,6 @@ impl<H: Threads + Copy> Reception<H> {
             self.make(load)?;
             return Ok(false);
         }
-        self.offer_again(load, places)
-    }
-
-    // Asks for the runs that are out longest, and offers a run if something came back. Answers whether
-    // something came.
-    fn offer_again<P: Places>(&mut self, load: RunLoad, places: &mut P) -> Result<bool, NoMemory>
-        requires below { PlacesAreBelow (P.bound places.old) self.old.out }
-        ensures exchanged { OnOk result ((calls : List PlaceCall)
-            × IsExchanged (P.told places.old) (P.told places.new) self.old self.new calls
-            × MayOffer (jobs_of_run load.job) (proposed_in (exchanges_of calls))) }
-        ensures places { KeepsPlaces P.told P.bound places.old places.new self.new.out }
-    {
         if !self.ask_first(places)? {
             self.make(load)?;
             return Ok(false);
@@ -140,9 +129,9 @@ impl<H: Threads + Copy> Reception<H> {
     // Offers a run once. It may be handed back.
     fn put<P: Places>(&mut self, load: RunLoad, places: &mut P) -> Result<Option<RunLoad>, NoMemory>
         requires below { PlacesAreBelow (P.bound places.old) self.old.out }
-        ensures exchanged { IfOk result (λ back. (calls : List PlaceCall)
-            × IsExchanged (P.told places.old) (P.told places.new) self.old self.new calls
-            × IsOneOffer (jobs_of_run load.job) back (proposed_in (exchanges_of calls))) }
+        ensures exchanged { IfOk result (λ back. (answer : Option ℕ)
+            × IsExchanged (P.told places.old) (P.told places.new) self.old self.new
+            (Puts load.job answer ∷ []) × is_handed_back answer back) }
         ensures back { IfOk result (λ back. IfSome back (λ same. same.job ≡ load.job)) }
         ensures places { KeepsPlaces P.told P.bound places.old places.new self.new.out }
     {
@@ -152,8 +141,8 @@ impl<H: Threads + Copy> Reception<H> {
     // Decodes a run that found no place, while others are out. Where none is, nobody else decodes, and
     // each slice is decoded once its picture is released.
     fn make(&mut self, load: RunLoad) -> Result<(), NoMemory>
-        ensures made { OnOk result ((dones : List Answered) × AreDecodings dones
-            × (self.new ≡ takes_dones self.old dones)) }
+        ensures made { OnOk result ((self.new ≡ self.old)
+            ⊎ (self.new ≡ takes_dones self.old (made_run load.job))) }
         ensures out { self.new.out ≡ self.old.out }
     {
         if self.out.count() > 0 {
@@ -239,7 +228,9 @@ impl<H: Threads + Copy> Reception<H> {
     }
 
     // Takes runs back that wait, the last one first, and decodes each; then asks what is decoded by then.
+    // So only where a picture may be released.
     fn help<P: Places>(&mut self, places: &mut P) -> Result<(), NoMemory>
+        requires released { is_some (next_picture self.old) ≡ true }
         requires below { PlacesAreBelow (P.bound places.old) self.old.out }
         ensures exchanged { OnOk result ((calls : List PlaceCall)
             × IsExchanged (P.told places.old) (P.told places.new) self.old self.new calls
@@ -255,6 +246,7 @@ impl<H: Threads + Copy> Reception<H> {
 
     // Takes the `i`th run that is out back, if there are so many and nobody decodes it yet, and decodes it.
     fn take_over<P: Places>(&mut self, i: usize, places: &mut P) -> Result<(), NoMemory>
+        requires released { is_some (next_picture self.old) ≡ true }
         requires below { PlacesAreBelow (P.bound places.old) self.old.out }
         ensures exchanged { OnOk result ((calls : List PlaceCall)
             × IsExchanged (P.told places.old) (P.told places.new) self.old self.new calls

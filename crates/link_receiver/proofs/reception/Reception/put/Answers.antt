@@ -1,5 +1,4 @@
 use Rattle.link_receiver.proofs.Asked.{asked_put}
-use Rattle.link_slices.specs.Jobs.{jobs_of_run}
 use Rattle.link_receiver.proofs.Steps.{put_calls}
 use Rattle.link_receiver.specs.contracts.reception.Reception.{the_view}
 use Rattle.link_receiver.proofs.reception.Reception.put.Goals as goal
@@ -12,7 +11,7 @@ returns-clause-exchanged g c =
 pub returns-clause-places : goal.returns-clause-places
 returns-clause-places g c = record {
   asked = asked_put g.P.Places.told c.args.places.now c.offer.new.places _ _ c.offer.result _ _
-      (jobs_of_run c.args.load.job) (returns-clause-exchanged g c) c.offer.ensures.unchanged;
+      c.args.load.job (returns-clause-exchanged g c) c.offer.ensures.unchanged;
   same_bound = c.offer.ensures.bound;
   below = c.offer.ensures.below;
 }

@@ -41,13 +41,13 @@ loop-preserved g c =
     let next : next_picture c.loop.self ≡ Some (releasable_of c.in-Some.picture) =
     sym c.loop.invariant.next ∙ ap (option_map releasable_of) c.in-Some.is in
     record {
-      releasing = releasing_goes_on e c.loop.invariant.releasing
+      releasing = rw c.note_released.ensures (releasing_goes_on e c.loop.invariant.releasing
           (releasable_of c.in-Some.picture) next _ _ _ _ c.in_ok-release.ensures.value
           c.in_ok-release.ensures.stream
-          c.in_ok-release.ensures.written c.in_ok-release.ensures.told;
+          c.in_ok-release.ensures.written c.in_ok-release.ensures.told);
       within = c.loop.invariant.within;
       later = omega (arith, c.loop.invariant.later, c.release.ensures.cause.later);
       next = c.next_release-next.ensures;
-      waiting = c.in_ok-release.ensures.waiting;
-      places = keeps_twice c.loop.invariant.places c.release.ensures.places;
+      waiting = rw c.note_released.ensures c.in_ok-release.ensures.waiting;
+      places = rw c.note_released.ensures (keeps_twice c.loop.invariant.places c.release.ensures.places);
     }
