@@ -1,14 +1,16 @@
 -- The header of the first session is read again from the bytes that stand for it.
-use Rattle.std.proofs.Common.{◌≡◌, ℕ, Bool, List, [], ◌∷◌, ◌++◌, take, Option, Some, None, cond, Result, Ok, refl, sym, ap, ◌∙◌, append-nil, is_some, fold, arith}
+use Rattle.std.proofs.Common.{◌≡◌, ℕ, Bool, List, [], ◌∷◌, ◌++◌, take, Option, Some, None, cond, Result, Ok, Err, refl, sym, ap, ◌∙◌, append-nil, is_some, fold, subst, arith}
 use Rattle.std.specs.Option.{option_map_or}
 use Rattle.std.proofs.lemmas.Grind.{common_steps}
 use Rattle.link_model.specs.Packets.{PayloadValue}
 use Rattle.link_model.specs.Session.{DatagramRefusal, HeardSession, Received, Session, begins, hears, just_opened, last_with, opens_next, received, session_by, session_from, session_with, sessions_of}
 use Rattle.link_model.proofs.Hearing.{hears_new, hears_nothing}
+use Rattle.link_model.proofs.WholeHeaders.{value_alone, value_of_whole}
 use Rattle.stream_model.specs.Streams.{first_header, header_in, header_of_payload, header_of_received, used_bytes}
 use Rattle.vc_types.specs.Bits.{bits_of}
 use Rattle.vc_types.specs.HeaderSpelling.{header_bits}
-use Rattle.vc_types.specs.SequenceHeader.{Sequence, bytes_used, coded_header, sequence_header, with_bytes_used}
+use Rattle.vc_types.specs.SequenceHeader.{Sequence, bytes_used, coded_header, coded_whole_header_of, high_quality_profile, sequence_header, with_bytes_used}
+use Rattle.vc_types.specs.declared.presentation.Presentation.{Presentation}
 use Rattle.vc_types.specs.declared.refusal.HeaderRefusal.{HeaderRefusal}
 use Rattle.vc_types.proofs.FieldCodecs.{ok_is}
 use Rattle.vc_types.proofs.HeaderCodecs.{header_is}
@@ -46,14 +48,35 @@ module _ (body : List ℕ) (s : Sequence) (used : ℕ) where
         ap (λ (n : ℕ). coded_header (take n body)) left.2 ∙ ap coded_header (sym (append-nil bytes)) ∙ alone,
       )
 
+-- what these bytes say of how the frames of this sequence are shown
+module _ (bytes : List ℕ) (s : Sequence) (used : ℕ) where
+  abbrev Whole : Type 0
+  Whole = (said : Presentation) × (coded_whole_header_of high_quality_profile bytes ≡ Ok ((s, said), used))
+
+  whole_by : (read : Result ((Sequence × Presentation) × ℕ) HeaderRefusal) → coded_whole_header_of high_quality_profile bytes ≡ read → value_alone read ≡ Ok (s, used) → Whole
+  whole_by (Ok read) is told =
+      let same : (read.0.0, read.1) ≡ (s, used) = ok_is {E = HeaderRefusal} (read.0.0, read.1) (s, used) told in
+      (read.0.1, is ∙ ap (λ (z : Sequence × ℕ). Ok ((z.0, read.0.1), z.1)) same)
+  whole_by (Err refusal) is told = absurd cc
+
+  pub whole_is : coded_header bytes ≡ Ok (s, used) → Whole
+  whole_is told = whole_by (coded_whole_header_of high_quality_profile bytes) refl (sym (value_of_whole high_quality_profile bytes) ∙ told)
+
 -- ---- a datagram that begins a session
 
 module _ (t : Session) where
-  of_read : (ssrc : ℕ) (body : List ℕ) (read : Result (Sequence × ℕ) HeaderRefusal) → coded_header body ≡ read → session_with ssrc read ≡ Some t → IsHeaderOf (used_bytes body read) t.sequence
+  of_read : (ssrc : ℕ) (body : List ℕ) (read : Result ((Sequence × Presentation) × ℕ) HeaderRefusal) → coded_header body ≡ value_alone read → session_with ssrc read ≡ Some t
+      → IsHeaderOf (used_bytes body (value_alone read)) t.sequence
   of_read ssrc body read is told = grind (arith, common_steps, used_again)
 
+  of_body : (ssrc : ℕ) (body : List ℕ) → session_with ssrc (coded_whole_header_of high_quality_profile body) ≡ Some t → IsHeaderOf (used_bytes body (coded_header body)) t.sequence
+  of_body ssrc body told =
+      let same = value_of_whole high_quality_profile body in
+      subst (λ (read : Result (Sequence × ℕ) HeaderRefusal). IsHeaderOf (used_bytes body read) t.sequence) (sym same)
+      (of_read ssrc body (coded_whole_header_of high_quality_profile body) same told)
+
   of_value : (ssrc : ℕ) (value : PayloadValue) → session_by ssrc value ≡ Some t → IsHeaderOf (header_of_payload value) t.sequence
-  of_value ssrc value told = grind (arith, common_steps, of_read)
+  of_value ssrc value told = grind (arith, common_steps, of_body)
 
   of_received : (r : Result Received DatagramRefusal) → session_from r ≡ Some t → IsHeaderOf (header_of_received r) t.sequence
   of_received r told = grind (arith, of_value)

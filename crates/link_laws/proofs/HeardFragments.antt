@@ -1,5 +1,5 @@
 -- Every fragment that is heard of a sender's stream is one of a picture that was sent.
-use Rattle.std.proofs.Common.{◌≡◌, ◌<◌, ◌≤◌, ℕ, ◌^◌, Bool, true, false, List, [], ◌∷◌, ◌++◌, length, take, Option, Some, Ok, refl, sym, ap, ◌∙◌, subst, arith, All, inl, inr, ◌⊎◌, slice_get, filter_map, append_assoc}
+use Rattle.std.proofs.Common.{◌≡◌, ◌<◌, ◌≤◌, ℕ, ◌^◌, Bool, true, false, List, [], ◌∷◌, ◌++◌, length, take, cond, Option, Some, None, Result, Ok, Err, ◌==◌, refl, sym, ap, ◌∙◌, subst, arith, All, inl, inr, ◌⊎◌, slice_get, filter_map, append_assoc}
 use Rattle.std.specs.List.{flat_map, cons_option}
 use Rattle.std.proofs.lemmas.Bool.{false≢true}
 use Rattle.std.proofs.lemmas.List.Elements.{All-cons, All-nil, All-contains}
@@ -12,8 +12,8 @@ use Rattle.link_laws.proofs.OwnParts.{IsOwnPart, sent_part}
 use Rattle.link_laws.proofs.SentFragments.{header_unheard, end_unheard, parameters_heard, slices_heard}
 use Rattle.link_laws.proofs.SentStream.{IsOfPicture, IsSent, all_sent, runs_at}
 use Rattle.link_model.specs.Sending.{Outgoing, outgoing, DatagramContent, HeaderContent, ParametersContent, SlicesContent, EndContent, number_bits, pictures_of, sent_datagram, sent_stream, FitsDatagram}
-use Rattle.link_model.specs.SendingPictures.{sent_sequence, sent_parameters, sent_parameter_bytes}
-use Rattle.link_model.specs.Session.{Received, received, Session, Part, ParamsPart, SlicesPart, Fragment, HeardSession, fragment_in, sessions_of}
+use Rattle.link_model.specs.SendingPictures.{sent_sequence, shown_presentation, sent_parameters, sent_parameter_bytes}
+use Rattle.link_model.specs.Session.{DatagramRefusal, Received, received, Session, Part, ParamsPart, SlicesPart, Fragment, HeardSession, fragment_by, fragment_from, fragment_in, sessions_of}
 use Rattle.link_model.proofs.SentDatagrams.{are_settings}
 use Rattle.vc_types.specs.declared.settings.SendSettings.{SendSettings}
 use Rattle.vc_types.specs.Planes.{Planes}
@@ -23,6 +23,15 @@ use Rattle.vc_types.specs.SenderSettings.{Sending, sending_view}
 pub received_of : (session : Session) (d : List ℕ) (f : Fragment) → fragment_in session d ≡ Some f → (r : Received) × (received d ≡ Ok r) × (r.ssrc ≡ session.ssrc)
 unfolding fragment_in
 received_of session d f is = grind arith
+
+-- fragments are those of a source, whatever its header says
+same_source : (a b : Session) (d : List ℕ) → a.ssrc ≡ b.ssrc → fragment_in a d ≡ fragment_in b d
+unfolding fragment_in
+same_source a b d same = by_received (received d)
+  where
+    by_received : (r : Result Received DatagramRefusal) → fragment_from a r ≡ fragment_from b r
+    by_received (Ok r) = ap (λ (n : ℕ). cond (r.ssrc == n) (fragment_by r.value) None) same
+    by_received (Err refusal) = refl
 
 all_found : {A B : Type 0} (P : B → Type 0) (h : A → Option B) (xs : List A) → ((x : A) (y : B) → IsAmong xs x → h x ≡ Some y → P y) → All P (filter_map h xs)
 all_found P h [] each = All-nil P
@@ -42,7 +51,7 @@ module _ (settings : SendSettings) (small : settings.ssrc < 2 ^ 32) (indices : L
   s = sending_view settings
 
   abbrev pub own_session : Session
-  own_session = record { ssrc = settings.ssrc; sequence = sent_sequence s }
+  own_session = record { ssrc = settings.ssrc; sequence = sent_sequence s; presentation = shown_presentation s }
 
   -- a part of a picture that was sent, by its place
   abbrev pub IsPartOf : ℕ → Part → Type 0
@@ -66,15 +75,15 @@ module _ (settings : SendSettings) (small : settings.ssrc < 2 ^ 32) (indices : L
   sent_fragment d f sent is = of_content sent.number sent.o.picture f sent.o.content sent.content (ap (fragment_in own_session) (sym sent.is) ∙ is)
 
   module _ (frames : List Planes) (are : pictures ≡ flat_map (pictures_of s) frames) (datagrams : List (List ℕ)) (h : HeardSession) (heard : IsHeardOf s (sent_stream s indices frames) datagrams h) where
-    pub session_is : h.session ≡ own_session
-    session_is = λ i. record { ssrc = heard.ssrc i; sequence = heard.sequence i }
+    pub heard_as_own : (d : List ℕ) → fragment_in h.session d ≡ fragment_in own_session d
+    heard_as_own d = same_source h.session own_session d heard.ssrc
 
     each_heard : (d : List ℕ) (f : Fragment) (among : IsAmong datagrams d) → 1 ≤ length (sessions_of among.0) → fragment_in h.session d ≡ Some f → IsSentFragment s IsPartOf f
     each_heard d f among opened is =
         let read = received_of h.session d f is in
         let behind : 1 ≤ length (sessions_of (take (length among.0) datagrams)) = rw (front_of d datagrams among) opened in
         let there = heard.sent (length among.0) d read.0 (among_at d datagrams among) behind read.1 (read.2 ∙ heard.ssrc) in
-        sent_fragment d f (All-contains (IsSent s indices pictures) (sent_stream s indices frames) d (all_sent s indices frames pictures are) there) (ap (λ (t : Session). fragment_in t d) (sym session_is) ∙ is)
+        sent_fragment d f (All-contains (IsSent s indices pictures) (sent_stream s indices frames) d (all_sent s indices frames pictures are) there) (sym (heard_as_own d) ∙ is)
 
     pub all_heard : All (IsSentFragment s IsPartOf) h.fragments
     all_heard =

@@ -1,10 +1,10 @@
 -- Pictures that are heard one after another, each whole before the next: how they are numbered, and what is entered of each.
-use Rattle.std.proofs.Common.{◌≡◌, ◌<◌, ◌≤◌, ℕ, zero, suc, ◌+◌, ◌-◌, ◌%◌, ◌^◌, Bool, true, false, cond, List, [], ◌∷◌, ◌++◌, length, map, Some, refl, sym, ap, ◌∙◌, subst, arith, All, inl, inr, ◌⊎◌, fold, get_or, slice_get, append_assoc, append-nil, Option, ◌==◌, ◌&&◌, filter_map, count_by, length-append}
+use Rattle.std.proofs.Common.{◌≡◌, ◌<◌, ◌≤◌, ℕ, zero, suc, ◌+◌, ◌-◌, ◌%◌, ◌^◌, Bool, true, false, cond, List, [], ◌∷◌, ◌++◌, length, map, Some, refl, sym, ap, ◌∙◌, subst, arith, All, inl, inr, ◌⊎◌, fold, get_or, slice_get, append_assoc, append-nil, filter_map, count_by, length-append}
 use Rattle.std.specs.List.{flat_map, range_with_len}
 use Rattle.std.proofs.lemmas.Bool.{lt-leb, cases_Bool, eq-eqb}
 use Rattle.std.proofs.lemmas.Grind.{common_steps}
 use Rattle.std.proofs.lemmas.List.Elements.{All-head, All-nil, All-tail, filter_map-append}
-use Rattle.std.proofs.lemmas.List.Sums.{fold-append, sum_by-cons, sum_by-append}
+use Rattle.std.proofs.lemmas.List.Sums.{fold-append, sum_by-cons}
 use Rattle.std.proofs.lemmas.Option.{none-some, same_Some, slice_get-get_or}
 use Rattle.link_laws.proofs.Among.{among_all, among_from, All-front}
 use Rattle.link_laws.proofs.EnteredNumbers.{IsEntry, first_number, none_greatest, not_late, number_behind, other_part, own_part, unopened, IsSentFragment, all_added, number_by}
@@ -15,7 +15,7 @@ use Rattle.link_model.proofs.Leaving.{one, opened-over, past}
 use Rattle.link_model.proofs.Ranges.{in_longer}
 use Rattle.link_model.proofs.Numbering.{early_enters, greatest_one, greatest-append, parts_of-append, late_changes_nothing, parts_of-other}
 use Rattle.vc_types.specs.SenderSettings.{Sending}
-use Rattle.link_laws.specs.HeardStreams.{has_slices, has_slices_of}
+use Rattle.link_laws.specs.HeardStreams.{is_slices_of}
 use Rattle.link_model.specs.Kept.{part_slices}
 
 -- ---- pictures one after another
@@ -183,19 +183,8 @@ module _ (s : Sending) where
 abbrev pub slices_in : ℕ → List Numbered → ℕ
 slices_in n es = length (filter_map part_slices (parts_of n es))
 
-abbrev pub is_slices_of : ℕ → Fragment → Bool
-is_slices_of bits f = f.number == bits && has_slices f.part
-
 slices_more : (n : ℕ) (es : List Numbered) (e : Numbered) → slices_in n (es ++ e ∷ []) ≡ slices_in n es + slices_in n (e ∷ [])
 slices_more n es e = grind (arith, common_steps, filter_map-append, length-append, parts_of-append)
-
--- of datagrams
-pub datagrams_counted : {A : Type 0} (bits : ℕ) (h : A → Option Fragment) (xs : List A) → count_by (is_slices_of bits) (filter_map h xs) ≡ count_by (λ d. has_slices_of bits (h d)) xs
-datagrams_counted bits h [] = refl
-datagrams_counted {A} bits h (x ∷ xs) = grind (arith, common_steps, sum_by-cons, datagrams_counted bits h xs)
-
-pub counted_behind : {A : Type 0} (test : A → Bool) (before : List A) (x : A) (behind : List A) → count_by test behind ≤ count_by test (before ++ x ∷ behind)
-counted_behind {A} test before x behind = grind (arith, common_steps, sum_by-append, sum_by-cons)
 
 module _ (s : Sending) (IsPart : ℕ → Part → Type 0) (window : ℕ) (some : 1 ≤ window) (first : ℕ) (bits : first % 2 ^ 32 ≡ s.picture % 2 ^ 32) (j : ℕ) where
   abbrev own : Fragment → Bool

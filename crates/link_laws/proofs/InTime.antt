@@ -1,10 +1,10 @@
 -- What is there in time of a picture is entered with its number.
-use Rattle.std.proofs.Common.{◌≡◌, ◌≤◌, ℕ, ◌+◌, ◌%◌, ◌^◌, false, List, [], ◌∷◌, ◌++◌, length, take, Some, sym, ap, ◌∙◌, subst, arith, All, filter_map, count_by}
-use Rattle.link_laws.specs.HeardStreams.{IsInTime, entered_of, has_slices_of, slice_datagrams}
+use Rattle.std.proofs.Common.{◌≡◌, ◌≤◌, ℕ, ◌+◌, ◌%◌, ◌^◌, false, List, [], ◌∷◌, ◌++◌, length, take, Some, sym, ap, ◌∙◌, subst, arith, All, filter_map}
+use Rattle.link_laws.specs.HeardStreams.{IsInTime, entered_of, slices_heard}
 use Rattle.link_laws.proofs.Among.{All-front}
-use Rattle.link_laws.proofs.InOrder.{slices_in, is_slices_of, entered_counted, datagrams_counted, counted_behind}
+use Rattle.link_laws.proofs.InOrder.{slices_in, entered_counted}
 use Rattle.link_laws.proofs.EnteredNumbers.{IsSentFragment, IsEntry, base_is, entered_begins, part_entered}
-use Rattle.link_laws.proofs.OneSession.{HeardAt, heard_at, opens_once}
+use Rattle.link_laws.proofs.OneSession.{HeardAt, heard_at}
 use Rattle.link_model.specs.Kept.{part_slices}
 use Rattle.link_model.specs.Numbers.{Numbered, is_closed, entered, parts_of}
 use Rattle.link_model.specs.Output.{greatest_of, is_closed_in}
@@ -24,7 +24,7 @@ module _ (s : Sending) (IsPart : ℕ → Part → Type 0) (window : ℕ) (some :
     pub front : List Part
     pub rest : List Part
     pub is : parts_of (first + j) (entered (2 ^ 32) window h.fragments) ≡ front ++ part ∷ rest
-    pub few : length (filter_map part_slices front) ≤ slice_datagrams h.session (number_bits s j) (take place datagrams)
+    pub few : length (filter_map part_slices front) ≤ slices_heard (number_bits s j) (sessions_of (take place datagrams))
 
   module _ (d : List ℕ) (f : Fragment) (is : fragment_in h.session d ≡ Some f) (own : IsSentFragment s IsPart f) (place : ℕ) (time : IsInTime window datagrams (first + own.picture) d place) where
     at : HeardAt h datagrams place d
@@ -59,17 +59,9 @@ module _ (s : Sending) (IsPart : ℕ → Part → Type 0) (window : ℕ) (some :
         (subst (λ (l : List Numbered). All (IsEntry s IsPart first) l) now.1
         (All-front (IsEntry s IsPart first) (entered (2 ^ 32) window (at.old.fragments ++ f ∷ [])) next.0 (subst (λ (l : List Numbered). All (IsEntry s IsPart first) l) next.1 entries_all)))
 
-    counted : slices_in (first + own.picture) (entered (2 ^ 32) window at.old.fragments) ≤ slice_datagrams h.session (number_bits s own.picture) (take place datagrams)
-    counted =
-        let opens = opens_once at.old (take place datagrams) at.stand in
-        let own_count = entered_counted s IsPart window some first bits own.picture at.old.fragments sent_old entries_old in
-        let same : count_by (is_slices_of (number_bits s own.picture)) at.old.fragments ≡ slice_datagrams h.session (number_bits s own.picture) opens.behind =
-        ap (count_by (is_slices_of (number_bits s own.picture))) opens.fragments
-        ∙ datagrams_counted (number_bits s own.picture) (fragment_in at.old.session) opens.behind
-        ∙ ap (λ (t : Session). slice_datagrams t (number_bits s own.picture) opens.behind) at.session in
-        let less : slice_datagrams h.session (number_bits s own.picture) opens.behind ≤ slice_datagrams h.session (number_bits s own.picture) (opens.before ++ opens.header ∷ opens.behind) = counted_behind (λ d. has_slices_of (number_bits s own.picture) (fragment_in h.session d)) opens.before opens.header opens.behind in
-        let whole : slice_datagrams h.session (number_bits s own.picture) (take place datagrams) ≡ slice_datagrams h.session (number_bits s own.picture) (opens.before ++ opens.header ∷ opens.behind) = ap (slice_datagrams h.session (number_bits s own.picture)) opens.is in
-        omega (arith, own_count, same, less, whole)
+    counted : slices_in (first + own.picture) (entered (2 ^ 32) window at.old.fragments) ≤ slices_heard (number_bits s own.picture) (sessions_of (take place datagrams))
+    counted = subst (λ (hs : List HeardSession). slices_in (first + own.picture) (entered (2 ^ 32) window at.old.fragments) ≤ slices_heard (number_bits s own.picture) hs)
+        (sym at.stand) (entered_counted s IsPart window some first bits own.picture at.old.fragments sent_old entries_old)
 
     pub in_time : IsEntered own.picture d place f.part
     in_time = grind (arith, all, at, counted, found)

@@ -23,6 +23,8 @@ pub mod ReceivedFrames
 pub mod StreamsBack
 pub mod ReceivedLaws
 pub mod KeptBudgets
+pub mod SentBudgets
+pub mod MoreHeard
 pub mod ZeroIndices
 pub mod RawBytes
 pub mod ShortDatagrams

@@ -1,5 +1,5 @@
 -- The elementary stream of datagrams is played to what is written of their first session.
-use Rattle.std.proofs.Common.{◌≡◌, ℕ, ◌+◌, ◌-◌, ◌*◌, Bool, false, cond, List, [], ◌∷◌, ◌++◌, length, Option, Some, None, refl, sym, ap, subst, ◌∙◌, append-nil, inl, arith}
+use Rattle.std.proofs.Common.{◌≡◌, ℕ, ◌+◌, ◌-◌, ◌*◌, Bool, false, cond, List, [], ◌∷◌, ◌++◌, length, Option, Some, None, Ok, refl, sym, ap, subst, ◌∙◌, append-nil, inl, arith}
 use Rattle.std.specs.Option.{option_map_or}
 use Rattle.std.proofs.lemmas.List.Elements.{All-cons}
 use Rattle.link_model.specs.Numbers.{opened_numbers}
@@ -8,10 +8,12 @@ use Rattle.stream_model.specs.Streams.{behind_header, end_unit, first_header, fi
 use Rattle.cmd_stream.specs.Playing.{UnitSplit, frames_due, so_far, unit_split}
 use Rattle.cmd_stream.specs.Stream.{Stream, StreamPicture, StreamSoFar, all_taken, at_start, paired_frames, played, raw_frames, takes, units_taken, unpaired_in}
 use Rattle.vc_types.specs.DataUnits.{DataUnit, unit_length}
-use Rattle.vc_types.specs.SequenceHeader.{Sequence}
+use Rattle.vc_types.specs.Presentations.{presentation_of}
+use Rattle.vc_types.specs.SequenceHeader.{Sequence, coded_whole_header_of, high_quality_profile}
+use Rattle.vc_types.specs.declared.presentation.Presentation.{Presentation}
 use Rattle.vc_units.specs.Units.{units_within}
 use Rattle.link_laws.specs.Playback.{AreReadable, IsPlayedTo, StreamsArePlayedBack, first_output}
-use Rattle.link_laws.proofs.FirstHeader.{IsHeaderOf, first_header_is, first_of}
+use Rattle.link_laws.proofs.FirstHeader.{IsHeaderOf, first_header_is, first_of, whole_is}
 use Rattle.link_laws.proofs.FirstSession.{by_number, nothing_first}
 use Rattle.link_laws.proofs.ReadUnits.{IsInside, nothing_read, units_read}
 use Rattle.link_laws.proofs.ShownFrames.{AreShownAs, left_over, numbers_shown, played_as, so_far_with}
@@ -62,11 +64,14 @@ nothing_left s = by_mode s.fields
 -- ---- a stream of pictures
 
 module _ (packets : ℕ) (header : List ℕ) (s : Sequence) (begins : IsHeaderOf header s) where
-  header_taken : (more : List DataUnit) → all_taken at_start (header_unit header ∷ more) ≡ all_taken (so_far_with s [] (0 + unit_length (header_unit header))) more
-  unfolding all_taken takes
-  header_taken more = grind arith
+  abbrev said : (shown : Presentation) × (coded_whole_header_of high_quality_profile header ≡ Ok ((s, shown), begins.0))
+  said = whole_is header s begins.0 begins.1
 
-  end_taken : (pictures : List StreamPicture) (place : ℕ) → all_taken (so_far_with s pictures place) (end_unit ∷ []) ≡ (so_far_with s pictures (place + unit_length end_unit), false)
+  header_taken : (more : List DataUnit) → all_taken at_start (header_unit header ∷ more) ≡ all_taken (so_far_with s said.0 [] (0 + unit_length (header_unit header))) more
+  unfolding all_taken takes
+  header_taken more = rw said.1 refl
+
+  end_taken : (pictures : List StreamPicture) (place : ℕ) → all_taken (so_far_with s said.0 pictures place) (end_unit ∷ []) ≡ (so_far_with s said.0 pictures (place + unit_length end_unit), false)
   unfolding all_taken takes
   end_taken pictures place = refl
 
@@ -89,14 +94,14 @@ module _ (packets : ℕ) (header : List ℕ) (s : Sequence) (begins : IsHeaderOf
         let inside = All-cons IsInside (header_unit header) units header_inside shown.inside in
         let read = units_read (header_unit header ∷ units) packets 0 inside readable.lengths readable.few in
         let place : ℕ = 0 + unit_length (header_unit header) in
-        let pictures = shown.taken [] place (end_unit ∷ []) in
+        let pictures = shown.taken said.0 [] place (end_unit ∷ []) in
         grind (arith, end_taken, header_taken, none_left, own_played, read_played, shown)
 
   -- without units there are no pictures
   no_pictures : (bytes : List ℕ) → AreShownAs s [] bytes → bytes ≡ []
   unfolding all_taken
   no_pictures bytes shown =
-      let taken = shown.taken [] 0 [] in
+      let taken = shown.taken (presentation_of 0) [] 0 [] in
       let none : shown.pictures ≡ [] = sym (ap (λ (t : StreamSoFar × Bool). option_map_or (λ (stream : Stream). stream.pictures) t.0.stream []) taken.1) in
       sym (own_played [] bytes shown) ∙ ap (played_as s) none ∙ nothing_played s
 

@@ -7,7 +7,7 @@ use Rattle.link_laws.proofs.Among.{IsAmong, among_first, among_later, among_map,
 use Rattle.link_laws.proofs.EnteredNumbers.{IsSentFragment, AreEntries, entered_are, opened_number, parts_are}
 use Rattle.link_laws.proofs.FittingRuns.{run_fits, all_slices, run_taken_again}
 use Rattle.link_laws.proofs.FramePictures.{all_pictures, length-all_pictures, no_slice_fault, AreFaultless}
-use Rattle.link_laws.proofs.HeardFragments.{IsPartOf, own_session, session_is, all_heard}
+use Rattle.link_laws.proofs.HeardFragments.{IsPartOf, heard_as_own, own_session, all_heard}
 use Rattle.link_laws.proofs.InTime.{entered_is, in_time}
 use Rattle.link_laws.proofs.OwnParts.{IsOwnPart, whole_picture-own, sent_part}
 use Rattle.link_laws.proofs.SentStream.{AreSoundPictures, are_sound, IsOfPicture, IsContent, among_pictures, count, runs_at}
@@ -18,7 +18,7 @@ use Rattle.link_model.specs.Kept.{SliceRun, part_slices, waiting_limit}
 use Rattle.link_model.specs.Numbers.{Numbered, is_opened, entered, parts_of}
 use Rattle.link_model.specs.Sending.{DatagramContent, ParametersContent, SlicesContent, HeaderContent, EndContent, Outgoing, outgoing, frames_outgoing, number_bits, pictures_per_frame, sent_datagram, sent_stream, FitsDatagram}
 use Rattle.link_model.specs.SendingPictures.{sent_sequence, sent_parameters, sent_parameter_bytes, sent_slices, slice_room}
-use Rattle.link_model.specs.Session.{Part, ParamsPart, SlicesPart, HeardSession, Session, fragment_in}
+use Rattle.link_model.specs.Session.{Part, ParamsPart, SlicesPart, HeardSession, fragment_in}
 use Rattle.link_model.proofs.SentDatagrams.{are_settings}
 use Rattle.link_model.proofs.SentHeads.{coded_parameters-sent}
 use Rattle.vc_types.specs.declared.settings.SendSettings.{SendSettings}
@@ -113,14 +113,14 @@ module _ (settings : SendSettings) (small : settings.ssrc < 2 ^ 32) (indices : L
 
       heard_as : (k : ℕ) (c : DatagramContent) (part : Part) → fragment_in (own_session settings small indices pictures few_pictures fits) (sent_datagram s (s.seq + k) (outgoing j c)) ≡ Some (record { number = number_bits s j; part = part })
           → fragment_in h.session (sent_datagram s (s.seq + k) (outgoing j c)) ≡ Some (record { number = number_bits s j; part = part })
-      heard_as k c part is = ap (λ (t : Session). fragment_in t (sent_datagram s (s.seq + k) (outgoing j c))) (session_is settings small indices pictures few_pictures fits frames refl datagrams h heard) ∙ is
+      heard_as k c part is = heard_as_own settings small indices pictures few_pictures fits frames refl datagrams h heard (sent_datagram s (s.seq + k) (outgoing j c)) ∙ is
 
       own_parts : All (IsOwnPart p bytes runs) parts
       own_parts = All-weaker (IsPart j) (IsOwnPart p bytes runs)
           (λ part is. subst (λ (q : Planes). IsOwnPart p bytes (runs_at s indices j q) part) (same_Some is.0 planes (sym is.1 ∙ at)) is.2)
           parts (parts_are s IsPart are.first are.bits (entered (2 ^ 32) window h.fragments) j are.all)
 
-      module _ (time : IsHeardInTime window s indices frames datagrams h.session j (are.first + j)) where
+      module _ (time : IsHeardInTime window s indices frames datagrams j (are.first + j)) where
         parameters_there : (front : List Part) × (rest : List Part) × (parts ≡ front ++ ParamsPart bytes ∷ rest) × (length (filter_map part_slices front) ≤ waiting_limit)
         parameters_there =
             let k = (sent_place ParametersContent (among_later HeaderContent ParametersContent (ParametersContent ∷ map SlicesContent runs) (among_first ParametersContent (map SlicesContent runs)))) in
@@ -154,6 +154,6 @@ module _ (settings : SendSettings) (small : settings.ssrc < 2 ^ 32) (indices : L
           (ap (λ (l : List Numbered). is_opened l number) (sym (entered_is window h)) ∙ is.opened) j_few is.bits
 
       -- so the picture is whole, by any number that is its own
-      pub whole_received : (number : ℕ) → number ≡ are.first + j → IsHeardInTime window s indices frames datagrams h.session j number
+      pub whole_received : (number : ℕ) → number ≡ are.first + j → IsHeardInTime window s indices frames datagrams j number
           → whole_picture (sent_sequence s) (parts_of number (entered_of window h)) ≡ Some (bytes ++ joined (sent_slices p planes own_indices))
       whole_received number same time = grind (arith, entered_is, whole_first)

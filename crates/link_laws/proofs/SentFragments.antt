@@ -2,21 +2,21 @@
 use Rattle.std.proofs.Common.{◌≡◌, ℕ, List, [], Some, None, refl, sym, ap, ◌∙◌, append-nil}
 use Rattle.link_model.specs.Kept.{SliceRun}
 use Rattle.link_model.specs.Sending.{DatagramContent, HeaderContent, ParametersContent, SlicesContent, EndContent, sent_value, sent_datagram, number_bits, AreSettings, FitsDatagram}
-use Rattle.link_model.specs.SendingPictures.{sent_sequence, sent_header, sent_parameters, sent_parameter_bytes}
+use Rattle.link_model.specs.SendingPictures.{sent_sequence, sent_header, shown_presentation, sent_parameters, sent_parameter_bytes}
 use Rattle.link_model.specs.Session.{Session, session_with, session_from, begins, ParamsPart, SlicesPart, fragment_from, fragment_in}
 use Rattle.link_model.proofs.SentDatagrams.{received-sent_datagram}
-use Rattle.link_model.proofs.SentHeads.{coded_header-sent}
+use Rattle.link_model.proofs.SentHeads.{coded_whole-sent}
 use Rattle.link_laws.proofs.OwnParts.{itself, sent_part}
 use Rattle.vc_types.specs.declared.settings.SendSettings.{SendSettings}
 use Rattle.vc_types.specs.SenderSettings.{Sending, sending_view}
-use Rattle.vc_types.specs.SequenceHeader.{coded_header}
+use Rattle.vc_types.specs.SequenceHeader.{coded_whole_header_of, high_quality_profile}
 
 module _ (settings : SendSettings) (are : AreSettings (sending_view settings)) (number picture : ℕ) where
   abbrev s : Sending
   s = sending_view settings
 
   abbrev own : Session
-  own = record { ssrc = settings.ssrc; sequence = sent_sequence s }
+  own = record { ssrc = settings.ssrc; sequence = sent_sequence s; presentation = shown_presentation s }
 
   abbrev sent : DatagramContent → List ℕ
   sent content = sent_datagram s number (record { picture = picture; content = content })
@@ -25,8 +25,8 @@ module _ (settings : SendSettings) (are : AreSettings (sending_view settings)) (
   unfolding begins sent_value
   header_begins =
       ap session_from (received-sent_datagram s number picture HeaderContent are tt)
-      ∙ ap (λ (l : List ℕ). session_with settings.ssrc (coded_header l)) (sym (append-nil (sent_header s)))
-      ∙ ap (session_with settings.ssrc) (coded_header-sent settings [])
+      ∙ ap (λ (l : List ℕ). session_with settings.ssrc (coded_whole_header_of high_quality_profile l)) (sym (append-nil (sent_header s)))
+      ∙ ap (session_with settings.ssrc) (coded_whole-sent settings [])
 
   pub parameters_heard : FitsDatagram s ParametersContent → fragment_in own (sent ParametersContent) ≡ Some (record { number = number_bits s picture; part = ParamsPart (sent_parameter_bytes s) })
   unfolding fragment_in sent_value

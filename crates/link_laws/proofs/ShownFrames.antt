@@ -11,6 +11,8 @@ use Rattle.cmd_stream.specs.Stream.{Stream, StreamPicture, StreamSoFar, after_un
 use Rattle.vc_types.specs.DataUnits.{DataUnit, unit_length}
 use Rattle.vc_types.specs.Planes.{Planes, decoded_planes}
 use Rattle.vc_types.specs.SequenceHeader.{Sequence, picture_shape}
+use Rattle.vc_types.specs.Presentations.{presentation_of}
+use Rattle.vc_types.specs.declared.presentation.Presentation.{Presentation}
 use Rattle.std.proofs.lemmas.Bool.{cond-false, cond-true, eq-eqb, eqb-true}
 use Rattle.std.proofs.lemmas.List.Concat.{flat_map-cons}
 use Rattle.std.proofs.lemmas.List.Elements.{All-append, All-cons, All-nil}
@@ -21,36 +23,36 @@ use Rattle.link_laws.proofs.ReadUnits.{IsInside}
 -- ---- the pictures of an elementary stream
 
 -- a stream of high quality, of these pictures up to now
-abbrev pub stream_with : Sequence → List StreamPicture → Stream
-stream_with s pictures = record { coding = HighQuality; sequence = s; pictures = pictures }
+abbrev pub stream_with : Sequence → Presentation → List StreamPicture → Stream
+stream_with s said pictures = record { coding = HighQuality; sequence = s; presentation = said; pictures = pictures }
 
-abbrev pub so_far_with : Sequence → List StreamPicture → ℕ → StreamSoFar
-so_far_with s pictures place = record { stream = Some (stream_with s pictures); place = place }
+abbrev pub so_far_with : Sequence → Presentation → List StreamPicture → ℕ → StreamSoFar
+so_far_with s said pictures place = record { stream = Some (stream_with s said pictures); place = place }
 
 -- units bring these pictures, whatever came before and whatever follows
 abbrev pub AreTaken : Sequence → List DataUnit → List StreamPicture → Type 0
-AreTaken s units pictures = (before : List StreamPicture) (place : ℕ) (more : List DataUnit) → (later : ℕ)
-    × (all_taken (so_far_with s before place) (units ++ more) ≡ all_taken (so_far_with s (before ++ pictures) later) more)
+AreTaken s units pictures = (said : Presentation) (before : List StreamPicture) (place : ℕ) (more : List DataUnit) → (later : ℕ)
+    × (all_taken (so_far_with s said before place) (units ++ more) ≡ all_taken (so_far_with s said (before ++ pictures) later) more)
 
 module _ (s : Sequence) where
   pub none_taken : AreTaken s [] []
-  none_taken before place more = (place, ap (λ (l : List StreamPicture). all_taken (so_far_with s l place) more) (sym (append-nil before)))
+  none_taken said before place more = (place, ap (λ (l : List StreamPicture). all_taken (so_far_with s said l place) more) (sym (append-nil before)))
 
-  pub one_taken : (u : DataUnit) (p : StreamPicture) → ((before : List StreamPicture) → takes (Some (stream_with s before)) u ≡ Some (Some (stream_with s (before ++ p ∷ [])))) → AreTaken s (u ∷ []) (p ∷ [])
+  pub one_taken : (u : DataUnit) (p : StreamPicture) → ((said : Presentation) (before : List StreamPicture) → takes (Some (stream_with s said before)) u ≡ Some (Some (stream_with s said (before ++ p ∷ [])))) → AreTaken s (u ∷ []) (p ∷ [])
   unfolding all_taken
-  one_taken u p is before place more =
-      let h : StreamSoFar = so_far_with s before place in
-      (place + unit_length u, ap (λ (o : Option (Option Stream)). option_map_or (λ stream. all_taken (after_unit h u stream) more) o (h, true)) (is before))
+  one_taken u p is said before place more =
+      let h : StreamSoFar = so_far_with s said before place in
+      (place + unit_length u, ap (λ (o : Option (Option Stream)). option_map_or (λ stream. all_taken (after_unit h u stream) more) o (h, true)) (is said before))
 
   pub joined_taken : (us vs : List DataUnit) (ps qs : List StreamPicture) → AreTaken s us ps → AreTaken s vs qs → AreTaken s (us ++ vs) (ps ++ qs)
-  joined_taken us vs ps qs first second before place more =
-      let a = first before place (vs ++ more) in
-      let b = second (before ++ ps) a.0 more in (
+  joined_taken us vs ps qs first second said before place more =
+      let a = first said before place (vs ++ more) in
+      let b = second said (before ++ ps) a.0 more in (
         b.0,
-        ap (all_taken (so_far_with s before place)) (append_assoc us vs more)
+        ap (all_taken (so_far_with s said before place)) (append_assoc us vs more)
             ∙ a.1
             ∙ b.1
-            ∙ ap (λ (l : List StreamPicture). all_taken (so_far_with s l b.0) more) (append_assoc before ps qs),
+            ∙ ap (λ (l : List StreamPicture). all_taken (so_far_with s said l b.0) more) (append_assoc before ps qs),
       )
 
 -- a picture by the low 32 bits of its number
@@ -69,22 +71,25 @@ module _ (s : Sequence) (es : List Numbered) (n : ℕ) (planes : Planes) where
       by_whole : (o : Option (List ℕ)) → option_and_then (decoded_planes s) o ≡ Some planes → picture_in HighQuality s (big_bytes 4 n ++ unwrap_or o []) ≡ Some (shown_at n planes)
       by_whole o is = grind (arith, whole_read)
 
-  pub unit_taken : planes_at s es n ≡ Some planes → (before : List StreamPicture) → takes (Some (stream_with s before)) (picture_unit_at s es n) ≡ Some (Some (stream_with s (before ++ shown_at n planes ∷ [])))
+  pub unit_taken : planes_at s es n ≡ Some planes → (said : Presentation) (before : List StreamPicture) → takes (Some (stream_with s said before)) (picture_unit_at s es n) ≡ Some (Some (stream_with s said (before ++ shown_at n planes ∷ [])))
   unfolding takes
-  unit_taken is before = ap (λ (p : Option StreamPicture). option_map (λ (next : Stream). Some next) (option_map (with_picture (stream_with s before)) p)) (unit_read is)
+  unit_taken is said before = ap (λ (p : Option StreamPicture). option_map (λ (next : Stream). Some next) (option_map (with_picture (stream_with s said before)) p)) (unit_read is)
 
   pub picture_taken : planes_at s es n ≡ Some planes → AreTaken s (picture_unit_at s es n ∷ []) (shown_at n planes ∷ [])
   picture_taken is = one_taken s (picture_unit_at s es n) (shown_at n planes) (unit_taken is)
 
 -- ---- its frames
 
--- ---- what pictures are played to
+-- ---- what pictures are played to, however they are meant to be shown
+
+abbrev stream_of : Sequence → List StreamPicture → Stream
+stream_of s pictures = stream_with s (presentation_of 0) pictures
 
 abbrev pub played_as : Sequence → List StreamPicture → List ℕ
-played_as s pictures = raw_frames s (stream_frames (stream_with s pictures))
+played_as s pictures = raw_frames s (stream_frames (stream_of s pictures))
 
 abbrev pub left_over : Sequence → List StreamPicture → ℕ
-left_over s pictures = unpaired_in (Some (stream_with s pictures))
+left_over s pictures = unpaired_in (Some (stream_of s pictures))
 
 -- units are pictures of a sequence, which make frames of these bytes, whatever pictures follow
 pub record AreShownAs (s : Sequence) (units : List DataUnit) (bytes : List ℕ) : Type 0 where
@@ -144,7 +149,7 @@ module _ (s : Sequence) (es : List Numbered) (n : ℕ) where
     each_played pictures = ap (flat_map (bytes_of s)) (cond-false s.fields (paired_frames s.top_first pictures) (map (λ p. p.planes) pictures) frames)
 
     none_over : (pictures : List StreamPicture) → left_over s pictures ≡ 0
-    none_over pictures = cond-false s.fields (length pictures - 2 * length (stream_frames (stream_with s pictures))) 0 frames
+    none_over pictures = cond-false s.fields (length pictures - 2 * length (stream_frames (stream_of s pictures))) 0 frames
 
     frame_alone : (planes : Planes) → planes_at s es n ≡ Some planes → AreShownAs s (picture_unit_at s es n ∷ []) (bytes_of s planes)
     frame_alone planes is = record {
@@ -177,18 +182,18 @@ module _ (s : Sequence) (es : List Numbered) (n : ℕ) where
     is_frame : is_pair first second ≡ true
     is_frame = grind (arith, eq-eqb)
 
-    pairs_of : (pictures : List StreamPicture) → stream_frames (stream_with s pictures) ≡ paired_frames s.top_first pictures
+    pairs_of : (pictures : List StreamPicture) → stream_frames (stream_of s pictures) ≡ paired_frames s.top_first pictures
     pairs_of pictures = cond-true s.fields (paired_frames s.top_first pictures) (map (λ p. p.planes) pictures) fields
 
     pair_first : (rest : List StreamPicture) → paired_frames s.top_first (first ∷ second ∷ rest) ≡ woven s.top_first a b ∷ paired_frames s.top_first rest
     unfolding paired_frames
     pair_first rest = cond-true (is_pair first second) (woven s.top_first a b ∷ paired_frames s.top_first rest) (paired_frames s.top_first (second ∷ rest)) is_frame
 
-    all_of : (rest : List StreamPicture) → stream_frames (stream_with s (first ∷ second ∷ rest)) ≡ woven s.top_first a b ∷ stream_frames (stream_with s rest)
+    all_of : (rest : List StreamPicture) → stream_frames (stream_of s (first ∷ second ∷ rest)) ≡ woven s.top_first a b ∷ stream_frames (stream_of s rest)
     all_of rest = pairs_of (first ∷ second ∷ rest) ∙ pair_first rest ∙ ap (λ (l : List Planes). woven s.top_first a b ∷ l) (sym (pairs_of rest))
 
-    over_of : (pictures : List StreamPicture) → left_over s pictures ≡ length pictures - 2 * length (stream_frames (stream_with s pictures))
-    over_of pictures = cond-true s.fields (length pictures - 2 * length (stream_frames (stream_with s pictures))) 0 fields
+    over_of : (pictures : List StreamPicture) → left_over s pictures ≡ length pictures - 2 * length (stream_frames (stream_of s pictures))
+    over_of pictures = cond-true s.fields (length pictures - 2 * length (stream_frames (stream_of s pictures))) 0 fields
 
     same_over : (rest : List StreamPicture) → left_over s (first ∷ second ∷ rest) ≡ left_over s rest
     same_over rest = grind (arith, all_of, over_of)
@@ -198,7 +203,7 @@ module _ (s : Sequence) (es : List Numbered) (n : ℕ) where
       pictures = first ∷ second ∷ [];
       inside = All-cons IsInside (picture_unit_at s es (n - 1)) (picture_unit_at s es n ∷ []) (is_inside (n - 1)) (All-cons IsInside (picture_unit_at s es n) [] (is_inside n) (All-nil IsInside));
       taken = joined_taken s (picture_unit_at s es (n - 1) ∷ []) (picture_unit_at s es n ∷ []) (first ∷ []) (second ∷ []) (picture_taken s es (n - 1) a earlier) (picture_taken s es n b later);
-      played = λ rest. ap (flat_map (bytes_of s)) (all_of rest) ∙ flat_map-cons (bytes_of s) (woven s.top_first a b) (stream_frames (stream_with s rest));
+      played = λ rest. ap (flat_map (bytes_of s)) (all_of rest) ∙ flat_map-cons (bytes_of s) (woven s.top_first a b) (stream_frames (stream_of s rest));
       paired = same_over;
     }
 

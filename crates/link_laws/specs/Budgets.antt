@@ -1,5 +1,9 @@
 -- A budget for the slices of a picture, and what they have of it.
-use Rattle.std.specs.Prelude.{◌≡◌, ◌<◌, ◌≤◌, ℕ, List, length}
+use Rattle.std.specs.Prelude.{◌≡◌, ◌<◌, ◌≤◌, ℕ, ◌==◌, if◌then◌else◌, List, [], length, slice_get, Some}
+use Rattle.std.specs.List.{flat_map}
+use Rattle.link_laws.specs.FramesToSend.{pictures_of_all}
+use Rattle.link_model.specs.Sending.{DatagramContent, HeaderContent, ParametersContent, SlicesContent}
+use Rattle.link_model.specs.Sending.{EndContent, Outgoing, frames_indices, frames_outgoing, run_bytes}
 use Rattle.link_model.specs.SendingPictures.{budget_share, chosen_indices, sent_length}
 use Rattle.link_model.specs.SendingPictures.{sent_parameters, sent_slices}
 use Rattle.vc_types.specs.declared.choice.IndexChoice.TheVariants.{Budget}
@@ -29,3 +33,28 @@ BudgetsAreKept = (settings : SendSettings) (planes : Planes) (bytes : ℕ)
     → settings.choice ≡ Budget bytes
     → CanKeepShares (sending_view settings) planes bytes
     → length (coded_slices (sending_view settings) planes) ≤ bytes
+
+-- ---- what is sent
+
+abbrev pub slice_bytes : DatagramContent → List ℕ
+slice_bytes HeaderContent = []
+slice_bytes ParametersContent = []
+slice_bytes (SlicesContent run) = run_bytes run
+slice_bytes EndContent = []
+
+-- the bytes of slices that a datagram has of a picture
+abbrev pub slices_of_picture : ℕ → Outgoing → List ℕ
+slices_of_picture picture o = if o.picture == picture then slice_bytes o.content else []
+
+-- and all datagrams that are sent of frames
+abbrev pub slices_sent : Sending → List Planes → ℕ → List ℕ
+slices_sent s frames picture =
+    flat_map (slices_of_picture picture) (frames_outgoing s (frames_indices s frames) frames)
+
+-- So do the slices in the datagrams that are sent of it.
+abbrev pub SentBudgetsAreKept : Type 0
+SentBudgetsAreKept = (settings : SendSettings) (frames : List Planes) (picture : ℕ) (planes : Planes)
+    (bytes : ℕ) → settings.choice ≡ Budget bytes
+    → slice_get (pictures_of_all (sending_view settings) frames) picture ≡ Some planes
+    → CanKeepShares (sending_view settings) planes bytes
+    → length (slices_sent (sending_view settings) frames picture) ≤ bytes

@@ -1,6 +1,6 @@
 -- What a receiver hears of a sender's stream, and what is there in time.
 use Rattle.std.specs.Prelude.{◌≡◌, ◌<◌, ◌≤◌, ℕ, ◌+◌, ◌%◌, ◌^◌, ◌==◌, Bool, true, false, ◌&&◌, List}
-use Rattle.std.specs.Prelude.{[], ◌∷◌, length, take, slice_get, Option, Some, None, Ok}
+use Rattle.std.specs.Prelude.{[], ◌∷◌, length, take, slice_get, Some, Ok}
 use Rattle.std.specs.List.{Contains, count_by}
 use Rattle.link_model.specs.Kept.{SliceRun, waiting_limit}
 use Rattle.link_model.specs.Numbers.{Numbered, is_opened}
@@ -8,8 +8,8 @@ use Rattle.link_model.specs.Output.{closing_place, entered_behind}
 use Rattle.link_model.specs.Sending.{ParametersContent, SlicesContent, frames_outgoing}
 use Rattle.link_model.specs.Sending.{number_bits, outgoing, sent_datagram}
 use Rattle.link_model.specs.SendingPictures.{sent_sequence}
-use Rattle.link_model.specs.Session.{Fragment, HeardSession, ParamsPart, Part, Received, Session}
-use Rattle.link_model.specs.Session.{SlicesPart, fragment_in, received, sessions_of}
+use Rattle.link_model.specs.Session.{Fragment, HeardSession, ParamsPart, Part, Received, SlicesPart}
+use Rattle.link_model.specs.Session.{received, sessions_of}
 use Rattle.vc_types.specs.Planes.{Planes}
 use Rattle.vc_types.specs.SenderSettings.{Sending}
 
@@ -49,19 +49,19 @@ abbrev pub has_slices : Part → Bool
 has_slices (ParamsPart body) = false
 has_slices (SlicesPart slices) = true
 
-abbrev pub has_slices_of : ℕ → Option Fragment → Bool
-has_slices_of bits None = false
-has_slices_of bits (Some f) = f.number == bits && has_slices f.part
+-- a fragment has slices of the pictures whose number has these 32 bits
+abbrev pub is_slices_of : ℕ → Fragment → Bool
+is_slices_of bits f = f.number == bits && has_slices f.part
 
--- how many datagrams have slices of the pictures whose number has these 32 bits
-abbrev pub slice_datagrams : Session → ℕ → List (List ℕ) → ℕ
-slice_datagrams session bits datagrams =
-    count_by (λ d. has_slices_of bits (fragment_in session d)) datagrams
+-- how many of them are heard of the session that stands, from the datagram that opens it on
+abbrev pub slices_heard : ℕ → List HeardSession → ℕ
+slices_heard bits [] = 0
+slices_heard bits (h ∷ hs) = count_by (is_slices_of bits) h.fragments
 
 -- All datagrams with a picture's parameters or slices are there in time, the parameters after at
--- most as many datagrams of its slices as wait for them.
+-- most as many of the session's datagrams with its slices as wait for them.
 pub record IsHeardInTime (window : ℕ) (s : Sending) (indices : List ℕ) (frames : List Planes)
-    (datagrams : List (List ℕ)) (session : Session) (picture number : ℕ) : Type 0 where
+    (datagrams : List (List ℕ)) (picture number : ℕ) : Type 0 where
   pub slices : (k : ℕ) (run : SliceRun)
       → slice_get (frames_outgoing s indices frames) k ≡ Some (outgoing picture (SlicesContent run))
       → (place : ℕ) × IsInTime window datagrams number
@@ -70,4 +70,4 @@ pub record IsHeardInTime (window : ℕ) (s : Sending) (indices : List ℕ) (fram
       → slice_get (frames_outgoing s indices frames) k ≡ Some (outgoing picture ParametersContent)
       → (place : ℕ) × IsInTime window datagrams number
       (sent_datagram s (s.seq + k) (outgoing picture ParametersContent)) place
-      × (slice_datagrams session (number_bits s picture) (take place datagrams) ≤ waiting_limit)
+      × (slices_heard (number_bits s picture) (sessions_of (take place datagrams)) ≤ waiting_limit)

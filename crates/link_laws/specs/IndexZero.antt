@@ -46,8 +46,7 @@ PicturesAreReceived = (settings : SendSettings) (window : ℕ) (indices : List �
     → slice_get (pictures_of_all (sending_view settings) frames) picture ≡ Some planes
     → IsAtIndexZero (sending_view settings) indices picture
     → IsNumberOf (sending_view settings) (entered_of window h) picture number
-    → IsHeardInTime window (sending_view settings) indices frames datagrams h.session picture
-    number
+    → IsHeardInTime window (sending_view settings) indices frames datagrams picture number
     → whole_picture (sent_sequence (sending_view settings)) (parts_of number (entered_of window h))
     ≡ Some (sent_picture_bytes (sending_view settings) indices picture planes)
 
@@ -61,8 +60,7 @@ pub record IsFrameHeard (window : ℕ) (s : Sending) (indices : List ℕ) (frame
   pub zero : (i : ℕ) → i < pictures_per_frame s
       → IsAtIndexZero s indices (f * pictures_per_frame s + i)
   pub each : (i : ℕ) → i < pictures_per_frame s
-      → IsHeardInTime window s indices frames datagrams h.session
-      (f * pictures_per_frame s + i) (number + i)
+      → IsHeardInTime window s indices frames datagrams (f * pictures_per_frame s + i) (number + i)
 
 -- the number of a frame's last picture
 abbrev pub last_picture : Sending → ℕ → ℕ

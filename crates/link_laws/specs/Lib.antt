@@ -4,3 +4,4 @@ pub mod IndexZero
 pub mod Budgets
 pub mod RoundTrip
 pub mod Playback
+pub mod MoreHeard

@@ -1,4 +1,4 @@
-ghost use Rattle.link_laws.specs.Budgets.{BudgetsAreKept};
+ghost use Rattle.link_laws.specs.Budgets.{BudgetsAreKept, SentBudgetsAreKept};
 ghost use Rattle.link_laws.specs.IndexZero.{IndexZeroIsLossless, PicturesAreReceived};
 ghost use Rattle.link_laws.specs.IndexZero.{PicturesComeBack, SentStreamsComeBack};
 
@@ -36,4 +36,10 @@ pub fn sent_streams_come_back()
 #[tactic(auto, using(crate::proofs::KeptBudgets::budgets_are_kept))]
 pub fn budgets_are_kept()
     ensures { BudgetsAreKept }
+{}
+
+/// So do the slices in the datagrams that are sent of the picture, among those of all frames.
+#[tactic(auto, using(crate::proofs::SentBudgets::sent_budgets_are_kept))]
+pub fn sent_budgets_are_kept()
+    ensures { SentBudgetsAreKept }
 {}
