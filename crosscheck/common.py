@@ -2,6 +2,7 @@
 
 import argparse
 import os
+import re
 import shutil
 import subprocess
 import sys
@@ -78,10 +79,25 @@ def datagrams_of(capture):
     return datagrams
 
 
-def run(program, words, given=b"", **more):
-    """The status, the output and the report of a run of the program."""
-    ran = subprocess.run([program, *words.split()], input=given, capture_output=True, **more)
-    return ran.returncode, ran.stdout, ran.stderr.decode(errors="replace")
+def run(program, words, given=b"", says_missing=False, **more):
+    """The status, the output and the report of a run of the program; with the line of missing frames behind it, where that is
+    wanted. The words are a list, or a text with spaces between."""
+    words = words.split() if isinstance(words, str) else words
+    ran = subprocess.run([program, *words], input=given, capture_output=True, **more)
+    said = ran.stderr.decode(errors="replace")
+    if not says_missing:
+        said = re.sub(r"^missing [-0-9a-z ]+\n\Z", "", said, flags=re.MULTILINE)
+    return ran.returncode, ran.stdout, said
+
+
+# What `main` says of an input after the report, by its first bytes (docs/FORMATS.md).
+OF_INPUT = re.compile(r"(the input (begins as|is) |a frame of these settings has |datagrams to other ports came: ).*\n\Z")
+
+
+def run_alone(program, words, given=b"", **more):
+    """A run as `run` has it, whose report ends before what `main` says of the input."""
+    status, output, report = run(program, words, given, **more)
+    return status, output, OF_INPUT.sub("", report)
 
 
 def difference(found, wanted):

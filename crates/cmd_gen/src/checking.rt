@@ -14,10 +14,11 @@ ghost use Rattle.vc_types.specs.SenderSettings.{generating_view};
 use crate::checker::Checker;
 use crate::round_trip::RoundTrip;
 use crate::{default_settings, samples_of};
-use cmd_send::{Encoder, Host};
+use cmd_send::Host;
 use link_receiver::threads_beside;
 use link_report::{Ending, Summary};
 use link_sender::{Chooser, Sender};
+use std::alloc::Global;
 use std::thread::Threads;
 use vc_slice::{Hands, Places};
 use vc_types::{GenSettings, IndexChoice, SliceNeed};
@@ -44,12 +45,25 @@ pub fn check<H: Threads + Copy + Send + Sync, P: Hands>(
         return Err(Ending::NoMemory);
     };
     let chooser = Chooser::by(IndexChoice::Index(0), |_need: &SliceNeed| 0);
-    let different = check_by(Encoder { host, chooser }, g, window, workers, hands)?;
+    let encoder = Encoder {
+        rt: host.rt,
+        alloc: host.alloc,
+        chooser,
+    };
+    let different = check_by(encoder, g, window, workers, hands)?;
     Ok(Summary::Compared {
         frames: u64::from(g.frames),
         samples: samples_of(g),
         different,
     })
+}
+
+// What encodes generated frames: threads, memory, and what chooses the indices.
+#[derive(Drop)]
+struct Encoder<H, F> {
+    rt: H,
+    alloc: Global,
+    chooser: Chooser<F>,
 }
 
 // How many samples come out otherwise, by a chooser of index 0.
@@ -74,11 +88,12 @@ fn check_by<H: Threads + Copy + Send + Sync, F: Fn(&SliceNeed) -> u8 + Sync, P: 
     ensures refused { IfErr result (IsOneRefused (generating_view g.now)) }
     ensures told { AskedPlaces (P.told places.old) (P.told places.new) }
 {
-    let Encoder { host, chooser } = encoder;
-    let sender = Sender::new(host.alloc, default_settings(g), chooser);
-    let checker = Checker::new(host.alloc, threads_beside(host.rt, workers), g, window);
+    let Encoder { rt, alloc, chooser } = encoder;
+    let sender = Sender::new(alloc, default_settings(g), chooser);
+    let checker = Checker::new(alloc, threads_beside(rt, workers), g, window);
     let mut trip = RoundTrip {
-        host,
+        rt,
+        alloc,
         workers,
         sender,
         checker,

@@ -15,9 +15,10 @@ ghost use Rattle.vc_types.specs.SenderSettings.{Generating, generating_view, sen
 
 use crate::checker::Checker;
 use crate::gen_frame;
-use cmd_send::{Host, refusal_ending};
+use cmd_send::refusal_ending;
 use link_report::Ending;
 use link_sender::Sender;
+use std::alloc::Global;
 use std::thread::Threads;
 use vc_slice::Places;
 use vc_types::{GenSettings, NoMemory, Plane, SliceNeed};
@@ -25,7 +26,8 @@ use vc_types::{GenSettings, NoMemory, Plane, SliceNeed};
 /// Sends generated frames, each encoded by so many threads, and receives them.
 #[derive(Drop)]
 pub(crate) struct RoundTrip<H, F> {
-    pub(crate) host: Host<H>,
+    pub(crate) rt: H,
+    pub(crate) alloc: Global,
     pub(crate) workers: u32,
     pub(crate) sender: Sender<F>,
     pub(crate) checker: Checker<H>,
@@ -77,7 +79,7 @@ impl<H: Threads + Copy + Send + Sync, F: Fn(&SliceNeed) -> u8 + Sync> RoundTrip<
     {
         let mut state = u64::from(g.seed);
         for _frame in 0..g.frames {
-            let Ok(made) = gen_frame(self.host.alloc, g, state) else {
+            let Ok(made) = gen_frame(self.alloc, g, state) else {
                 return Err(Ending::NoMemory);
             };
             let (frame, behind) = made;
@@ -104,10 +106,7 @@ impl<H: Threads + Copy + Send + Sync, F: Fn(&SliceNeed) -> u8 + Sync> RoundTrip<
         ensures told { AskedPlaces (P.told places.old) (P.told places.new) }
         ensures below { PlacesAreBelow (P.bound places.new) self.new.checker.receiver.reception.out }
     {
-        match self
-            .sender
-            .send_frame_joined(self.host.rt, self.workers, frame)
-        {
+        match self.sender.send_frame_joined(self.rt, self.workers, frame) {
             Ok(datagrams) => match self.checker.take_all(&datagrams, places) {
                 Ok(()) => Ok(()),
                 Err(NoMemory) => Err(Ending::NoMemory),

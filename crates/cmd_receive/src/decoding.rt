@@ -40,8 +40,8 @@ pub fn decode<H: Threads + Copy, S: Source, O: Sink, P: Hands>(
         (changed P.Places.told hands.old hands.new) }
 {
     let threads = threads_beside(host.rt, settings.workers);
-    let receiver = Receiver::new(host.alloc, threads, settings.window);
-    take_input(host.alloc, settings, receiver, input, output, hands)
+    let mut receiver = Receiver::new(host.alloc, threads, settings.window);
+    take_input(host, settings, &mut receiver, input, output, hands)
 }
 
 /// Unpacks a capture, or a pcap file: reads it as `decode` does, and writes the elementary stream of its
@@ -64,22 +64,29 @@ pub fn unpack<H: Threads + Copy, S: Source, O: Sink, P: Hands>(
         (changed P.Places.told hands.old hands.new) }
 {
     let threads = threads_beside(host.rt, settings.workers);
-    let receiver = Receiver::units(host.alloc, threads, settings.window);
-    take_input(host.alloc, settings, receiver, input, output, hands)
+    let mut receiver = Receiver::units(host.alloc, threads, settings.window);
+    take_input(
+        host.unwatched(),
+        settings,
+        &mut receiver,
+        input,
+        output,
+        hands,
+    )
 }
 
-// Starts the workers, and has a new receiver take the datagrams of an input.
+// Starts the workers, and has a receiver that has heard nothing take the datagrams of an input.
 fn take_input<H: Threads + Copy, S: Source, O: Sink, P: Hands>(
-    alloc: Global,
+    host: Host<H>,
     settings: &DecodeSettings,
-    receiver: Receiver<H>,
+    receiver: &mut Receiver<H>,
     input: &mut S,
     output: &mut O,
     hands: &mut P,
 ) -> Answer
-    requires new { IsNew receiver }
+    requires new { IsNew receiver.old }
     requires free { P.is_free hands.old }
-    ensures { (writes : OutputForm) (window : ℕ) → HasHeard writes receiver window []
+    ensures { (writes : OutputForm) (window : ℕ) → HasHeard writes receiver.old window []
         → TakesInput writes window settings.now.workers settings.now.packets settings.now.form result
         (input_of S.left S.faults input.old input.new)
         (output_of O.held O.faults output.old output.new)
@@ -88,9 +95,8 @@ fn take_input<H: Threads + Copy, S: Source, O: Sink, P: Hands>(
     let Ok(()) = hands.start_workers(settings.workers) else {
         return Answer::Stopped(Ending::NoMemory);
     };
-    let mut receiver = receiver;
-    let mut playout = Playout::new(&mut receiver, output, hands);
-    let heard = play_input(alloc, settings, input, &mut playout);
+    let mut playout = Playout::new(receiver, output, hands, &host.watch);
+    let heard = play_input(host.alloc, settings, input, &mut playout);
     with_record_counts(heard.records, conclude(&mut playout, heard.ended))
 }
 

@@ -12,6 +12,7 @@ mod playout;
 mod receiving;
 mod session_playout;
 mod settings;
+mod telling;
 mod wire_inlet;
 
 pub use count::SessionCount;

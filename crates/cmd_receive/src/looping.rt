@@ -1,7 +1,9 @@
-ghost use Rattle.std.specs.Prelude.{◌≡◌, ◌≤◌};
+ghost use Rattle.std.specs.Prelude.{◌≡◌, ◌≤◌, [], false, None};
 ghost use Rattle.link_report.specs.declared.summary.Summary.{Summary};
 ghost use Rattle.cmd_receive.specs.Exchanges.{IsReady, loop_state};
 ghost use Rattle.cmd_receive.specs.Looping.{LoopsBack, LoopsBetween};
+ghost use Rattle.link_receiver.specs.HeardLists.{AsFrames, HasHeard};
+ghost use Rattle.receiver_model.specs.Receptions.{new_reception};
 ghost use Rattle.vc_ports.specs.Changes.{changed, input_of, output_of, wire_of};
 ghost use Rattle.vc_types.specs.SenderSettings.{sending_view};
 
@@ -45,6 +47,35 @@ pub fn loop_back<H: Threads + Copy + Send + Sync, S: Source, O: Sink, N: Wire, P
         (wire_of N.told N.faults wire.old wire.new)
         (changed P.Places.told hands.old hands.new) }
 {
+    let threads = threads_beside(host.rt, options.sent.workers);
+    let mut receiver = Receiver::new(host.alloc, threads, options.window);
+    loop_by(host, options, &mut receiver, input, output, wire, hands)
+}
+
+// The same by a receiver that has heard nothing.
+fn loop_by<H: Threads + Copy + Send + Sync, S: Source, O: Sink, N: Wire, P: Hands>(
+    host: Host<H>,
+    options: &LoopOptions,
+    receiver: &mut Receiver<H>,
+    input: &mut S,
+    output: &mut O,
+    wire: &mut N,
+    hands: &mut P,
+) -> Result<Summary, Ending>
+    requires new { receiver.old ≡ record {
+      reception = new_reception options.now.window;
+      stream = None;
+      has_failed = false;
+    } }
+    requires heard { HasHeard AsFrames receiver.old options.now.window [] }
+    requires free { P.is_free hands.old }
+    ensures { LoopsBack (sending_view options.now.sent.sender) options.now.sent.frames options.now.window
+        options.now.sent.workers options.now.at.now result
+        (input_of S.left S.faults input.old input.new)
+        (output_of O.held O.faults output.old output.new)
+        (wire_of N.told N.faults wire.old wire.new)
+        (changed P.Places.told hands.old hands.new) }
+{
     let Ok(()) = hands.start_workers(options.sent.workers) else {
         return Err(Ending::NoMemory);
     };
@@ -58,11 +89,10 @@ pub fn loop_back<H: Threads + Copy + Send + Sync, S: Source, O: Sink, N: Wire, P
         return Err(Ending::WireFailed);
     };
     let inlet = WireInlet::new(&mut inbox, wire);
-    let threads = threads_beside(host.rt, options.sent.workers);
-    let mut receiver = Receiver::new(host.alloc, threads, options.window);
-    let playout = Playout::new(&mut receiver, output, hands);
+    let watch = host.watch;
+    let playout = Playout::new(receiver, output, hands, &watch);
     let mut outlet = LoopOutlet { inlet, playout };
-    loop_through(host, &options.sent, input, &mut outlet)
+    loop_through(host.unwatched(), &options.sent, input, &mut outlet)
 }
 
 // Sends frames, hears what comes, and then ends the receiver's input, unless it broke off.

@@ -3,21 +3,24 @@ ghost use Rattle.std.specs.Prelude.{◌≡◌, ⊤, refl};
 ghost use Rattle.cmd_receive.specs.HearingLaws.{all_but, breaks_then, hears_then, none_heard};
 ghost use Rattle.cmd_receive.specs.Playouts.{fault_of};
 
+use crate::telling::{tell_heard, tell_written};
 use bytes::Bytes;
 use link_hearing::{Listener, ListenerFault};
 use link_model::{Outcome, Tally};
 use link_receiver::{EnterFault, Receiver};
+use run_counts::RunCounts;
 use std::thread::Threads;
 use vc_ports::Sink;
 use vc_slice::Places;
 
 /// A receiver, with the output where its frames go and the places where its slices are decoded, all
-/// borrowed.
+/// borrowed. Counts, if there are any, are told what it takes and writes; no clause speaks of them.
 #[derive(Drop)]
 pub(crate) struct Playout<'a, 'b, 'c, H, O, P> {
     pub(crate) receiver: &'a mut Receiver<H>,
     pub(crate) output: &'b mut O,
     pub(crate) places: &'c mut P,
+    pub(crate) watch: &'a Option<&'a RunCounts>,
 }
 
 impl<'a, 'b, 'c, H: Threads + Copy, O: Sink, P: Places> Playout<'a, 'b, 'c, H, O, P> {
@@ -28,6 +31,7 @@ impl<'a, 'b, 'c, H: Threads + Copy, O: Sink, P: Places> Playout<'a, 'b, 'c, H, O
         receiver: &'a mut Receiver<H>,
         output: &'b mut O,
         places: &'c mut P,
+        watch: &'a Option<&'a RunCounts>,
     ) -> Playout<'a, 'b, 'c, H, O, P>
         requires new { IsNew receiver.old }
         ensures borrows_output { result.output.ghost_name ≡ output.entry.ghost_name }
@@ -42,6 +46,7 @@ impl<'a, 'b, 'c, H: Threads + Copy, O: Sink, P: Places> Playout<'a, 'b, 'c, H, O
             receiver,
             output,
             places,
+            watch,
         }
     }
 
@@ -53,8 +58,13 @@ impl<'a, 'b, 'c, H: Threads + Copy, O: Sink, P: Places> Playout<'a, 'b, 'c, H, O
         ensures takes { TakesDatagram (playout_state O.held O.faults P.told P.bound self.old)
             (playout_state O.held O.faults P.told P.bound self.new) datagram result }
     {
+        let bytes = datagram.len();
         match self.receiver.enter(datagram, self.places, self.output) {
-            Ok(outcome) => Ok(outcome),
+            Ok(outcome) => {
+                tell_heard(*self.watch, bytes);
+                tell_written(*self.watch, self.receiver);
+                Ok(outcome)
+            }
             Err(fault) => Err(fault_of(fault)),
         }
     }
@@ -68,7 +78,10 @@ impl<'a, 'b, 'c, H: Threads + Copy, O: Sink, P: Places> Playout<'a, 'b, 'c, H, O
             (playout_state O.held O.faults P.told P.bound self.new) result }
     {
         match self.receiver.drain(self.places, self.output) {
-            Ok(()) => Ok(*self.receiver.tally()),
+            Ok(()) => {
+                tell_written(*self.watch, self.receiver);
+                Ok(*self.receiver.tally())
+            }
             Err(fault) => Err(fault_of(fault)),
         }
     }

@@ -1,9 +1,11 @@
-ghost use Rattle.std.specs.Prelude.{◌≡◌, ◌≤◌, ℕ, [], IsTrue};
+ghost use Rattle.std.specs.Prelude.{◌≡◌, ◌≤◌, ℕ, [], false, IsTrue, None};
 ghost use Rattle.cmd_receive.specs.Ends.{Counts};
 ghost use Rattle.cmd_receive.specs.Playouts.{IsNew, IsWell, playout_state};
 ghost use Rattle.cmd_receive.specs.Receiving.{ReceivesFrom};
 ghost use Rattle.cmd_receive.specs.Sessions.{HearsWire};
 ghost use Rattle.link_hearing.specs.FromWire.{listening_at};
+ghost use Rattle.link_receiver.specs.HeardLists.{AsFrames, HasHeard};
+ghost use Rattle.receiver_model.specs.Receptions.{new_reception};
 ghost use Rattle.vc_ports.specs.Changes.{changed, output_of, wire_of};
 
 use crate::SessionCount;
@@ -44,23 +46,45 @@ pub fn recv<H: Threads + Copy, N: Wire, O: Sink, P: Hands>(
         (output_of O.held O.faults output.old output.new)
         (changed P.Places.told hands.old hands.new) }
 {
+    let threads = threads_beside(host.rt, options.workers);
+    let mut receiver = Receiver::new(host.alloc, threads, options.window);
+    receive(host, options, &mut receiver, wire, output, hands)
+}
+
+// Starts the workers, and has a receiver that has heard nothing take what comes to an address.
+fn receive<H: Threads + Copy, N: Wire, O: Sink, P: Hands>(
+    host: Host<H>,
+    options: &ReceiveOptions,
+    receiver: &mut Receiver<H>,
+    wire: &mut N,
+    output: &mut O,
+    hands: &mut P,
+) -> Answer
+    requires new { receiver.old ≡ record {
+      reception = new_reception options.now.window;
+      stream = None;
+      has_failed = false;
+    } }
+    requires heard { HasHeard AsFrames receiver.old options.now.window [] }
+    requires free { P.is_free hands.old }
+    ensures { ReceivesFrom options.now.window options.now.workers options.now.packets options.now.sessions
+        (listening_at options.now.at.now options.now.idle) result
+        (wire_of N.told N.faults wire.old wire.new)
+        (output_of O.held O.faults output.old output.new)
+        (changed P.Places.told hands.old hands.new) }
+{
     let Ok(()) = hands.start_workers(options.workers) else {
         return Answer::Stopped(Ending::NoMemory);
     };
     let Ok(mut inbox) = Inbox::new(host.alloc) else {
         return Answer::Stopped(Ending::NoMemory);
     };
-    let mut receiver = Receiver::new(
-        host.alloc,
-        threads_beside(host.rt, options.workers),
-        options.window,
-    );
     let Reached::Yes = listen(wire, options.at, options.idle) else {
         let tally = *receiver.tally();
         return Answer::Drained(Summary::Judged { tally }, Ending::WireFailed);
     };
     let mut inlet = WireInlet::new(&mut inbox, wire);
-    let playout = Playout::new(&mut receiver, output, hands);
+    let playout = Playout::new(receiver, output, hands, &host.watch);
     let count = SessionCount::new(options.sessions);
     let mut listener = SessionPlayout { playout, count };
     let heard = hear_wire(options.packets, &mut inlet, &mut listener);

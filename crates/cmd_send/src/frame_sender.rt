@@ -17,25 +17,26 @@ use vc_types::{NoMemory, Plane, SliceNeed};
 
 /// Sends frames to an outlet, and counts what goes out.
 #[derive(Drop)]
-pub(crate) struct FrameSender<H, F> {
-    pub(crate) host: Host<H>,
+pub(crate) struct FrameSender<'w, H, F> {
+    pub(crate) host: Host<'w, H>,
     workers: u32,
     pub(crate) sender: Sender<F>,
     pub(crate) totals: Totals,
 }
 
-impl<H: Threads + Copy + Send + Sync, F: Fn(&SliceNeed) -> u8 + Sync> FrameSender<H, F> {
+impl<'w, H: Threads + Copy + Send + Sync, F: Fn(&SliceNeed) -> u8 + Sync> FrameSender<'w, H, F> {
     /// One that has sent nothing. `options.workers` threads will encode each frame.
-    pub(crate) fn new(encoder: Encoder<H, F>, options: FrameOptions) -> FrameSender<H, F>
-        ensures chooser { result.sender.chooser ≡ encoder.chooser }
+    pub(crate) fn new(encoder: Encoder<'w, H, F>, options: FrameOptions) -> FrameSender<'w, H, F>
+        ensures chooser { result.sender.chooser ≡ encoder.entry.chooser }
         ensures settings { result.sender.settings ≡ options.sender }
         ensures behind { IsBehindFrames (sending_view options.sender) [] result }
     {
         let Encoder { host, chooser } = encoder;
+        let sender = Sender::new(host.alloc, options.sender, chooser);
         FrameSender {
             host,
             workers: options.workers,
-            sender: Sender::new(host.alloc, options.sender, chooser),
+            sender,
             totals: Totals {
                 frames: 0,
                 datagrams: 0,
@@ -78,6 +79,7 @@ impl<H: Threads + Copy + Send + Sync, F: Fn(&SliceNeed) -> u8 + Sync> FrameSende
                 match self.totals.put_all(&datagrams, next, outlet, pace) {
                     Ok(()) => {
                         self.totals.frames += 1;
+                        self.totals.tell(self.host.watch);
                         Ok(())
                     }
                     Err(fault) => Err(put_ending(fault)),

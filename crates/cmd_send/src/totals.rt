@@ -7,6 +7,7 @@ use crate::turns::Turns;
 use link_outside::{Outlet, OutletFault};
 use link_report::Summary;
 use link_sender::Datagram;
+use run_counts::{Flow, RunCounts};
 use vc_ports::Pace;
 
 /// How many frames went out, and how many datagrams, and how many bytes these have.
@@ -26,6 +27,17 @@ impl Totals {
             frames: self.frames,
             datagrams: self.datagrams,
             bytes: self.bytes,
+        }
+    }
+
+    /// Tells what went out so far, where there is somebody to tell.
+    pub(crate) fn tell(&self, watch: Option<&RunCounts>) {
+        if let Some(watch) = watch {
+            watch.tell_frames(self.frames);
+            watch.tell_passed(Flow {
+                datagrams: self.datagrams,
+                bytes: self.bytes,
+            });
         }
     }
 

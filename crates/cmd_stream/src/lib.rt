@@ -3,6 +3,7 @@
 #![tactic(auto)]
 
 mod coding;
+mod machine;
 mod opened;
 mod pack_fault;
 mod pack_slices;
@@ -15,6 +16,7 @@ mod playback;
 mod player;
 mod playing;
 mod stream;
+mod telling;
 mod totals;
 
 pub use coding::Coding;

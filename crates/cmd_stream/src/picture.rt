@@ -12,10 +12,10 @@ ghost use Rattle.cmd_stream.specs.Stream.{decoded, picture_in};
 ghost use Rattle.cmd_stream.specs.PlayViews.{picture_of};
 
 use crate::coding::Coding;
+use crate::machine::Machine;
 use crate::play_slices::{PictureHead, take_slices};
 use byteorder::{BigEndian, ByteOrder};
 use bytes::Bytes;
-use cmd_send::Host;
 use picture_build::PictureBuilder;
 use std::alloc::Global;
 use std::thread::Threads;
@@ -69,7 +69,7 @@ impl KeptMemory {
 /// The picture of a data unit's body; none where it is refused. The memory is kept from picture to picture.
 #[tactic(auto, unfolding(crate::specs::Stream::picture_in))]
 pub(crate) fn read_picture<H: Threads + Copy + Send + Sync>(
-    host: Host<H>,
+    host: Machine<H>,
     coding: Coding,
     header: &Header,
     kept: &mut KeptMemory,
@@ -96,7 +96,7 @@ pub(crate) fn read_picture<H: Threads + Copy + Send + Sync>(
 
 // The planes of a picture's own bytes, by how it is coded.
 fn planes_by<H: Threads + Copy + Send + Sync>(
-    host: Host<H>,
+    host: Machine<H>,
     coding: Coding,
     header: &Header,
     kept: &mut KeptMemory,
@@ -115,7 +115,7 @@ fn planes_by<H: Threads + Copy + Send + Sync>(
 
 // The planes of a low-delay picture's own bytes: its transform parameters and its slices.
 fn read_low_planes<H: Threads + Copy + Send + Sync>(
-    host: Host<H>,
+    host: Machine<H>,
     header: &Header,
     kept: &mut Option<LowRoom>,
     bytes: &[u8],
@@ -134,7 +134,7 @@ fn read_low_planes<H: Threads + Copy + Send + Sync>(
 
 // The planes of a low-delay picture's slices.
 fn low_planes_of<H: Threads + Copy + Send + Sync>(
-    host: Host<H>,
+    host: Machine<H>,
     plan: &LowPlan,
     kept: &mut Option<LowRoom>,
     slices: &[u8],
@@ -158,7 +158,7 @@ fn low_planes_of<H: Threads + Copy + Send + Sync>(
 
 // The planes of a high-quality picture's own bytes: its transform parameters and its slices.
 fn read_planes<H: Threads + Copy + Send + Sync>(
-    host: Host<H>,
+    host: Machine<H>,
     header: &Header,
     kept: &mut Option<PictureBuilder>,
     coded: CodedPicture,
@@ -179,7 +179,7 @@ fn read_planes<H: Threads + Copy + Send + Sync>(
 
 // The planes of a picture's slices.
 fn built<H: Threads + Copy + Send + Sync>(
-    host: Host<H>,
+    host: Machine<H>,
     head: &PictureHead,
     kept: &mut Option<PictureBuilder>,
     slices: Bytes,
@@ -194,7 +194,7 @@ fn built<H: Threads + Copy + Send + Sync>(
 
 // What the builder makes of the slices.
 fn planes_of<H: Threads + Copy + Send + Sync>(
-    host: Host<H>,
+    host: Machine<H>,
     head: &PictureHead,
     slices: Bytes,
     builder: &mut PictureBuilder,

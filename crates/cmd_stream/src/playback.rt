@@ -1,4 +1,4 @@
-ghost use Rattle.std.specs.Prelude.{◌≡◌, ◌<◌, ◌≤◌, ◌+◌, ◌^◌, [], Err, OnOk, IfOk};
+ghost use Rattle.std.specs.Prelude.{◌≡◌, ◌<◌, ◌≤◌, ◌+◌, ◌^◌, Err, OnOk, IfOk};
 ghost use Rattle.std.specs.Option.{option_map};
 ghost use Rattle.vc_ports.specs.Faults.{HasCause};
 ghost use Rattle.vc_types.specs.Planes.{planes_in};
@@ -6,28 +6,29 @@ ghost use Rattle.vc_types.specs.SequenceHeader.{sequence_of, picture_shape};
 ghost use Rattle.frame_writer.specs.Shapes.{HaveShape};
 ghost use Rattle.cmd_stream.specs.PlayLooping.{unpaired_of};
 ghost use Rattle.cmd_stream.specs.PlaySteps.{stream_state, next_waiting, new_frames};
-ghost use Rattle.cmd_stream.specs.Stream.{begun_as, begun_by, repeats};
+ghost use Rattle.cmd_stream.specs.Stream.{begun_as, begun_by, begun_with, repeats};
 ghost use Rattle.cmd_stream.specs.Taking.{HasShape, CompletesFrame, ShowsPicture};
 ghost use Rattle.cmd_stream.specs.PlayViews.{playback_state, picture_of};
 
 use crate::coding::Coding;
+use crate::machine::Machine;
 use crate::pairs::{is_pair, waits};
 use crate::picture::{KeptMemory, Picture, read_picture};
 use crate::play_fault::TakeFault;
-use cmd_send::Host;
 use field_pairs::weave;
 use frame_writer::{is_wide, write_frame};
 use std::alloc::Global;
 use std::thread::Threads;
 use vc_ports::Sink;
-use vc_seqhdr::read_header_of;
-use vc_types::{Header, NoMemory, Plane};
+use vc_seqhdr::{read_header_of, read_whole_header_of};
+use vc_types::{Header, NoMemory, Plane, Presentation};
 
-/// What is kept of a stream behind its first header: at most one field.
+/// What is kept of a stream behind its first header: what this header says, and at most one field.
 #[derive(Drop)]
 pub(crate) struct Playback {
     pub(crate) coding: Coding,
     pub(crate) header: Header,
+    pub(crate) presentation: Presentation,
     // With field coding, the earlier field of a frame, which waits for the very next picture.
     pub(crate) waiting: Option<Picture>,
     pub(crate) pictures: u64,
@@ -52,20 +53,21 @@ impl Playback {
         ensures { option_map playback_state result
             ≡ option_map stream_state (begun_as coding body.now) }
     {
-        match read_header_of(coding.profile(), body) {
-            Ok((header, _)) => Some(Playback::new(coding, header)),
+        match read_whole_header_of(coding.profile(), body) {
+            Ok(whole) => Some(Playback::new(coding, whole.header, whole.presentation)),
             Err(_) => None,
         }
     }
 
     // A stream without pictures.
-    fn new(coding: Coding, header: Header) -> Playback
-        ensures { playback_state result ≡ stream_state
-            (record { coding = coding; sequence = sequence_of header; pictures = [] }) }
+    fn new(coding: Coding, header: Header, presentation: Presentation) -> Playback
+        ensures { playback_state result
+            ≡ stream_state (begun_with coding (sequence_of header, presentation)) }
     {
         Playback {
             coding,
             header,
+            presentation,
             waiting: None,
             pictures: 0,
             frames: 0,
@@ -86,7 +88,7 @@ impl Playback {
     /// Takes the picture of a data unit's body, and writes the frame that it completes.
     pub(crate) fn show<H: Threads + Copy + Send + Sync, O: Sink>(
         &mut self,
-        host: Host<H>,
+        host: Machine<H>,
         body: Vec<u8>,
         output: &mut O,
     ) -> Result<(), TakeFault>

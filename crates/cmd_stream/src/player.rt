@@ -9,9 +9,9 @@ ghost use Rattle.cmd_stream.specs.Stream.{Stream, at_start};
 ghost use Rattle.cmd_stream.specs.Taking.{Agrees, Brought, CountsAtMost};
 ghost use Rattle.cmd_stream.specs.PlayViews.{player_state};
 
+use crate::machine::Machine;
 use crate::play_fault::TakeFault;
 use crate::playback::Playback;
-use cmd_send::Host;
 use link_report::Summary;
 use std::thread::Threads;
 use vc_ports::Sink;
@@ -35,7 +35,7 @@ impl Player {
     /// Takes a unit, and writes the frame that it completes.
     pub(crate) fn take<H: Threads + Copy + Send + Sync, O: Sink>(
         &mut self,
-        host: Host<H>,
+        host: Machine<H>,
         unit: Unit,
         output: &mut O,
     ) -> Result<(), TakeFault>

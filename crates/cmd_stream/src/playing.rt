@@ -10,10 +10,13 @@ ghost use Rattle.cmd_stream.specs.Stream.{at_start};
 ghost use Rattle.cmd_stream.specs.Taking.{CountsAtMost};
 ghost use Rattle.cmd_stream.specs.PlayViews.{player_state};
 
+use crate::machine::Machine;
 use crate::play_fault::TakeFault;
 use crate::player::Player;
+use crate::telling::tell_played;
 use cmd_send::Host;
 use link_report::{Ending, Summary};
+use run_counts::RunCounts;
 use std::thread::Threads;
 use vc_ports::{Filled, Sink, Source, fill};
 use vc_types::END_OF_SEQUENCE;
@@ -42,8 +45,13 @@ pub fn play<H: Threads + Copy + Send + Sync, S: Source, O: Sink>(
     ensures { Plays packets result (input_of S.left S.faults input.old input.new)
         (output_of O.held O.faults output.old output.new) }
 {
+    let machine = Machine {
+        rt: host.rt,
+        alloc: host.alloc,
+    };
+    let watch = host.watch;
     let mut player = Player::new();
-    match play_all(host, packets, &mut player, input, output) {
+    match play_all(machine, packets, &watch, &mut player, input, output) {
         Ok(()) => Ok(player.summary()),
         Err(ending) => Err(ending),
     }
@@ -51,8 +59,9 @@ pub fn play<H: Threads + Copy + Send + Sync, S: Source, O: Sink>(
 
 // Plays the units of a stream, and asks for the end behind the last of so many.
 fn play_all<H: Threads + Copy + Send + Sync, S: Source, O: Sink>(
-    host: Host<H>,
+    host: Machine<H>,
     packets: u32,
+    watch: &Option<&RunCounts>,
     player: &mut Player,
     input: &mut S,
     output: &mut O,
@@ -64,7 +73,7 @@ fn play_all<H: Threads + Copy + Send + Sync, S: Source, O: Sink>(
         (input_of S.left S.faults input.old input.new)
         (output_of O.held O.faults output.old output.new) }
 {
-    match play_units(host, packets, player, input, output)? {
+    match play_units(host, packets, watch, player, input, output)? {
         Stop::Ended => Ok(()),
         Stop::AtLimit => match fill(input, &mut [0; 1]) {
             Filled::Whole => Err(Ending::PacketLimit { limit: packets }),
@@ -76,8 +85,9 @@ fn play_all<H: Threads + Copy + Send + Sync, S: Source, O: Sink>(
 
 // Plays so many units at most.
 fn play_units<H: Threads + Copy + Send + Sync, S: Source, O: Sink>(
-    host: Host<H>,
+    host: Machine<H>,
     packets: u32,
+    watch: &Option<&RunCounts>,
     player: &mut Player,
     input: &mut S,
     output: &mut O,
@@ -92,12 +102,13 @@ fn play_units<H: Threads + Copy + Send + Sync, S: Source, O: Sink>(
         (result ≡ Err Ending.OutputFailed) }
 {
     let mut reader = UnitReader::new(host.alloc, input);
-    play_with(host, packets, player, &mut reader, output)
+    play_with(host, packets, watch, player, &mut reader, output)
 }
 
 fn play_with<H: Threads + Copy + Send + Sync, S: Source, O: Sink>(
-    host: Host<H>,
+    host: Machine<H>,
     packets: u32,
+    watch: &Option<&RunCounts>,
     player: &mut Player,
     reader: &mut UnitReader<S>,
     output: &mut O,
@@ -119,9 +130,10 @@ fn play_with<H: Threads + Copy + Send + Sync, S: Source, O: Sink>(
         match next_unit(reader) {
             Ok(Some(unit)) => {
                 let is_last = unit.code == END_OF_SEQUENCE;
+                let bytes = unit.body.len();
                 match player.take(host, unit, output) {
                     Ok(()) if is_last => return Ok(Stop::Ended),
-                    Ok(()) => {}
+                    Ok(()) => tell_played(watch, bytes, player),
                     Err(fault) => return Err(taking_ended(fault, place)),
                 }
             }

@@ -23,10 +23,21 @@ const LOOK_MILLIS: u64 = 100;
 pub enum Arrival {
     /// A datagram of so many bytes stands at the front of the buffer.
     Datagram(usize),
-    /// None was kept for too long.
+    /// None was kept for too long, or it has listened for as long as it was to.
     Silence,
     /// The reader ended.
     Failed(io::Error),
+}
+
+/// For how long a datagram is waited for.
+#[derive(Clone, Copy)]
+pub struct Patience {
+    /// For how long none has to be kept, and when the last one was.
+    pub silence: Option<Duration>,
+    pub kept: Option<Instant>,
+    /// For how long it listens, whatever comes, and since when.
+    pub whole: Option<Duration>,
+    pub begun: Option<Instant>,
 }
 
 /// What came to a socket and wasn't taken, which a thread of its own reads in.
@@ -82,19 +93,22 @@ impl Backlog {
     }
 
     /// Waits for the next datagram, until none was kept for so long. What came counts before how long that
-    /// took: a receiver that was held up has all of it to take.
+    /// took: a receiver that was held up has all of it to take. Once it has listened for as long as it was
+    /// to, what came and wasn't taken is left.
     pub fn await_next<H: Wait + Clock>(
         &mut self,
         rt: &H,
         buf: &mut [u8],
-        silence: Option<Duration>,
-        kept: Option<Instant>,
+        patience: Patience,
     ) -> Arrival
         requires room { length buf.old ≡ 65535 }
         ensures length { length buf.new ≡ length buf.old }
         ensures fits { Fits result }
     {
         for _ in rt.forever() {
+            if is_over(rt, patience.whole, patience.begun) {
+                return Arrival::Silence;
+            }
             // Asked for first: what the reader put in before it failed is taken all the same.
             let failure = self.failure();
             if let Some(count) = self.next(buf) {
@@ -103,7 +117,7 @@ impl Backlog {
             if let Some(error) = failure {
                 return Arrival::Failed(error);
             }
-            if is_over(rt, silence, kept) {
+            if is_over(rt, patience.silence, patience.kept) {
                 return Arrival::Silence;
             }
             self.shared
@@ -111,6 +125,11 @@ impl Backlog {
                 .park_timeout(rt, Duration::from_millis(LOOK_MILLIS));
         }
         unreachable!()
+    }
+
+    /// How many datagrams found no room so far.
+    pub fn dropped(&self) -> u64 {
+        self.shared.dropped.load(Ordering::SeqCst)
     }
 
     // The error by which the reader ended, if it did.
@@ -139,10 +158,10 @@ impl Backlog {
     }
 }
 
-// Whether nothing was kept for so long. Never where the clock can't be read.
-fn is_over<C: Clock>(clock: &C, silence: Option<Duration>, kept: Option<Instant>) -> bool {
-    match (silence, kept) {
-        (Some(most), Some(kept)) => match kept.elapsed(clock) {
+// Whether so much time is gone since then. Never where the clock can't be read.
+fn is_over<C: Clock>(clock: &C, most: Option<Duration>, since: Option<Instant>) -> bool {
+    match (most, since) {
+        (Some(most), Some(since)) => match since.elapsed(clock) {
             Ok(gone) => gone >= most,
             Err(_) => false,
         },

@@ -9,6 +9,7 @@ mod notes;
 mod reader;
 mod send_errors;
 mod socket_buffer;
+mod telling;
 
 pub use launcher::Launcher;
 pub use live_wire::{Limits, LiveWire};

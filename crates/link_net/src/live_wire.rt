@@ -1,10 +1,12 @@
 ghost use Rattle.std.specs.Prelude.{◌≡◌, is_some, None};
 ghost use Rattle.vc_ports.specs.Wires.{untold};
 
-use crate::backlog::{Arrival, Backlog};
+use crate::backlog::{Arrival, Backlog, Patience};
 use crate::launcher::Launcher;
 use crate::notes::WireNotes;
 use crate::send_errors::is_transient;
+use crate::telling::{tell_came, tell_refused, tell_sent};
+use run_counts::RunCounts;
 use std::alloc::Global;
 use std::net::{Net, SocketAddr, ToSocketAddrs, UdpSocket};
 use std::sync::Wait;
@@ -20,27 +22,35 @@ struct Aim {
     to: SocketAddr,
 }
 
-/// How much of what came a wire keeps.
+/// How much of what came a wire keeps, and for how long it listens.
 #[derive(Clone, Copy)]
 pub struct Limits {
     /// For how many bytes it has room.
     pub room: usize,
     /// How many bytes it asks the system to keep.
     pub system: u32,
+    /// How many seconds after it began to listen it ends, whatever comes. 0: it goes on.
+    pub seconds: u32,
+    /// After how many frames that its counts are told it ends. 0: it goes on.
+    pub frames: u64,
 }
 
-/// A wire over UDP. It tells nothing, and has to be stopped.
-pub struct LiveWire<H> {
+/// A wire over UDP. It tells nothing of its lists, and has to be stopped. Counts, if there are any, are told
+/// what goes and comes.
+pub struct LiveWire<'w, H> {
     rt: H,
     alloc: Global,
     limits: Limits,
     launcher: Launcher,
+    watch: Option<&'w RunCounts>,
     backlog: Option<Backlog>,
     aim: Option<Aim>,
     // For how long no datagram that is kept has to come until it ends. None: it never ends.
     silence: Option<Duration>,
     // When the last datagram came that was kept, or when it began to listen.
     kept: Option<Instant>,
+    // When it began to listen.
+    begun: Option<Instant>,
     address: Option<String>,
     error: Option<io::Error>,
     unsent: u64,
@@ -48,9 +58,15 @@ pub struct LiveWire<H> {
     counts: WireCounts,
 }
 
-impl<H: Threads + Wait + Net + Clock + Copy> LiveWire<H> {
+impl<'w, H: Threads + Wait + Net + Clock + Copy> LiveWire<'w, H> {
     /// A wire that neither listens nor is aimed.
-    pub fn new(rt: H, alloc: Global, limits: Limits, launcher: Launcher) -> LiveWire<H>
+    pub fn new(
+        rt: H,
+        alloc: Global,
+        limits: Limits,
+        launcher: Launcher,
+        watch: Option<&'w RunCounts>,
+    ) -> LiveWire<'w, H>
         ensures listens { result.backlog ≡ None }
         ensures aimed { result.aim ≡ None }
         ensures faults { result.faults ≡ 0 }
@@ -61,15 +77,25 @@ impl<H: Threads + Wait + Net + Clock + Copy> LiveWire<H> {
             alloc,
             limits,
             launcher,
+            watch,
             backlog: None,
             aim: None,
             silence: None,
             kept: None,
+            begun: None,
             address: None,
             error: None,
             unsent: 0,
             faults: 0,
             counts: WireCounts::NONE,
+        }
+    }
+
+    // Whether as many frames were written as are wanted.
+    fn has_enough(&self) -> bool {
+        match self.watch {
+            Some(watch) => self.limits.frames > 0 && watch.frames() >= self.limits.frames,
+            None => false,
         }
     }
 
@@ -80,10 +106,12 @@ impl<H: Threads + Wait + Net + Clock + Copy> LiveWire<H> {
             alloc: _,
             limits: _,
             launcher: _,
+            watch: _,
             backlog,
             aim: _,
             silence: _,
             kept: _,
+            begun: _,
             address,
             error,
             unsent,
@@ -102,7 +130,7 @@ impl<H: Threads + Wait + Net + Clock + Copy> LiveWire<H> {
     }
 }
 
-impl<H: Threads + Wait + Net + Clock + Copy> Wire for LiveWire<H> {
+impl<'w, H: Threads + Wait + Net + Clock + Copy> Wire for LiveWire<'w, H> {
     ghost told = { λ w. untold (is_some w.backlog) (is_some w.aim) w.counts };
 
     ghost faults = { λ w. w.faults };
@@ -113,6 +141,7 @@ impl<H: Threads + Wait + Net + Clock + Copy> Wire for LiveWire<H> {
             Ok(backlog) => {
                 let before = mem::replace(&mut self.backlog, Some(backlog));
                 self.kept = Instant::now(&self.rt).ok();
+                self.begun = self.kept;
                 leave(&self.rt, before);
                 Reached::Yes
             }
@@ -143,11 +172,13 @@ impl<H: Threads + Wait + Net + Clock + Copy> Wire for LiveWire<H> {
         match going_out(&self.aim, datagram) {
             Ok(()) => {
                 self.counts.count_sent();
+                tell_sent(self.watch, datagram.len());
                 Sent::Yes
             }
             Err(error) if is_transient(&error) => {
                 self.counts.count_sent();
                 self.unsent = self.unsent.saturating_add(1);
+                tell_refused(self.watch, self.unsent);
                 Sent::Lost
             }
             Err(error) => {
@@ -160,11 +191,7 @@ impl<H: Threads + Wait + Net + Clock + Copy> Wire for LiveWire<H> {
 
     fn end_after(&mut self, seconds: u32) {
         self.counts.ask(seconds);
-        self.silence = if seconds == 0 {
-            None
-        } else {
-            Some(Duration::from_secs(u64::from(seconds)))
-        };
+        self.silence = whole(seconds);
     }
 
     fn keep(&mut self) {
@@ -173,11 +200,22 @@ impl<H: Threads + Wait + Net + Clock + Copy> Wire for LiveWire<H> {
     }
 
     fn recv(&mut self, buf: &mut [u8]) -> Came {
+        let has_enough = self.has_enough();
         let rt = self.rt;
-        let silence = self.silence;
-        let kept = self.kept;
+        let patience = Patience {
+            silence: self.silence,
+            kept: self.kept,
+            whole: whole(self.limits.seconds),
+            begun: self.begun,
+        };
         if let Some(backlog) = &mut self.backlog {
-            match backlog.await_next(&rt, buf, silence, kept) {
+            let arrival = if has_enough {
+                Arrival::Silence
+            } else {
+                backlog.await_next(&rt, buf, patience)
+            };
+            tell_came(self.watch, &arrival, backlog.dropped());
+            match arrival {
                 Arrival::Datagram(count) => return Came::Datagram(count),
                 Arrival::Silence => {
                     self.counts.count_end();
@@ -188,6 +226,15 @@ impl<H: Threads + Wait + Net + Clock + Copy> Wire for LiveWire<H> {
         }
         self.faults = self.faults.saturating_add(1);
         Came::Failed
+    }
+}
+
+// For how long it listens, if that has an end.
+fn whole(seconds: u32) -> Option<Duration> {
+    if seconds == 0 {
+        None
+    } else {
+        Some(Duration::from_secs(u64::from(seconds)))
     }
 }
 

@@ -23,6 +23,7 @@ use crate::reception::Reception;
 use bytes::Bytes;
 use link_model::{Outcome, Tally};
 use link_pictures::StreamOutput;
+use run_counts::MissingFrames;
 use std::alloc::Global;
 use std::marker::Model;
 use std::thread::Threads;
@@ -103,6 +104,11 @@ impl<H: Threads + Copy> Receiver<H> {
         ensures { result.now ≡ self.now.reception.counts }
     {
         self.reception.counts()
+    }
+
+    /// Which frames weren't written, between the first and the last that were. No clause speaks of them.
+    pub fn missing(&self) -> &MissingFrames {
+        self.reception.missing()
     }
 
     /// Takes a datagram: keeps what it brings, offers its slices to places and takes back what is

@@ -15,6 +15,7 @@ use link_model::Tally;
 use link_pictures::{Answers, FrameOutput};
 use link_slices::RunsOut;
 use link_window::{Opening, Standing, hear};
+use run_counts::MissingFrames;
 use std::alloc::Global;
 use std::marker::Model;
 use vc_types::NoMemory;
@@ -32,6 +33,8 @@ pub(crate) struct Reception<H> {
     pub(crate) rooms: Vec<Vec<i32>>,
     pub(crate) field: FrameOutput,
     pub(crate) has_ended: bool,
+    // Which frames weren't written. No clause speaks of it.
+    pub(crate) missing: MissingFrames,
 }
 
 impl<H> Model for Reception<H> {
@@ -64,6 +67,7 @@ impl<H> Reception<H> {
             rooms: Vec::new(alloc),
             field: FrameOutput::new(alloc),
             has_ended: false,
+            missing: MissingFrames::new(),
         }
     }
 
@@ -84,6 +88,10 @@ impl<H> Reception<H> {
         ensures { result.now ≡ self.now.counts }
     {
         &self.counts
+    }
+
+    pub(crate) fn missing(&self) -> &MissingFrames {
+        &self.missing
     }
 
     /// Keeps what a datagram brings, and counts it.
@@ -148,6 +156,7 @@ impl<H> Reception<H> {
         self.give_up_field()?;
         let greatest = greatest(&self.standing);
         self.standing = Some(Standing::new(self.alloc, opening, self.size, greatest));
+        self.missing.open_session();
         Ok(())
     }
 }

@@ -51,10 +51,22 @@ impl<H: Threads + Copy> Reception<H> {
             let Some(picture) = next else {
                 return Ok(());
             };
+            let number = picture.number;
             self.release(picture, stream, places, sink)?;
+            self.note_released(number);
             next = self.next_release();
         }
         Ok(())
+    }
+
+    // Notes which frames weren't written, once this picture was released.
+    fn note_released(&mut self, number: u64)
+        ensures { self.new ≡ self.old }
+    {
+        if let Some(standing) = &self.standing {
+            let has_fields = standing.header().fields;
+            self.missing.release(self.counts.frames, number, has_fields);
+        }
     }
 
     fn open_pictures(&self) -> usize

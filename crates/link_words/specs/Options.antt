@@ -14,6 +14,7 @@ use Rattle.link_words.specs.declared.options.Name.TheVariants.{Frames, Seed, Cou
 use Rattle.link_words.specs.declared.options.Name.TheVariants.{Check, Window, Workers, Packets, Pcap}
 use Rattle.link_words.specs.declared.options.Name.TheVariants.{Port, Sessions, Pace, To, At, Every}
 use Rattle.link_words.specs.declared.options.Name.TheVariants.{Reporter, Cname, BySender, Ntp, Idle}
+use Rattle.link_words.specs.declared.options.Name.TheVariants.{First, Progress, Seconds, Written}
 use Rattle.link_words.specs.declared.options.Command.{Command}
 use Rattle.link_words.specs.declared.options.Command.TheVariants.{Decode, Encode, Send, Recv, Loop}
 use Rattle.link_words.specs.declared.options.Command.TheVariants.{Unpack, Pack, Play, Gen}
@@ -71,6 +72,10 @@ option_row Packets = (codes "--packets", Number 1 4294967295 4294967295)
 option_row Pcap = (codes "--pcap", Number 0 1 0)
 option_row Port = (codes "--port", Number 0 65535 0)
 option_row Idle = (codes "--idle", Number 0 86400 0)
+option_row Seconds = (codes "--seconds", Number 0 86400 0)
+option_row Written = (codes "--frames", Number 0 4294967295 0)
+option_row First = (codes "--first", Number 0 4294967295 0)
+option_row Progress = (codes "--progress", Number 0 86400 0)
 option_row Sessions = (codes "--sessions", Number 1 4294967295 1)
 option_row Pace = (codes "--pace", Number 0 1 1)
 option_row To = (codes "--to", Address)
@@ -90,20 +95,21 @@ sender_names =
 
 -- the options of each command
 abbrev pub names_of : Command → List Name
-names_of Decode = Window ∷ Workers ∷ Packets ∷ Pcap ∷ Port ∷ []
-names_of Encode = sender_names ++ Workers ∷ []
-names_of Send = sender_names ++ Workers ∷ Pace ∷ To ∷ []
-names_of Recv = Window ∷ Workers ∷ Packets ∷ Sessions ∷ Idle ∷ At ∷ []
-names_of Loop = sender_names ++ Window ∷ Workers ∷ At ∷ []
+names_of Decode = Window ∷ Workers ∷ Packets ∷ Pcap ∷ Port ∷ Progress ∷ []
+names_of Encode = sender_names ++ First ∷ Workers ∷ Progress ∷ []
+names_of Send = sender_names ++ First ∷ Workers ∷ Pace ∷ To ∷ Progress ∷ []
+names_of Recv =
+    Window ∷ Workers ∷ Packets ∷ Sessions ∷ Idle ∷ Seconds ∷ Written ∷ At ∷ Progress ∷ []
+names_of Loop = sender_names ++ First ∷ Window ∷ Workers ∷ At ∷ Progress ∷ []
 names_of Unpack = Window ∷ Workers ∷ Packets ∷ Pcap ∷ Port ∷ []
 names_of Pack = Packets ∷ Size ∷ Ssrc ∷ Pt ∷ Seq ∷ Tick ∷ Rate ∷ []
-names_of Play = Packets ∷ []
+names_of Play = Packets ∷ Progress ∷ []
 names_of Gen =
     Width ∷ Height ∷ Sampling ∷ Range ∷ Fields ∷ Top ∷ Seed ∷ Count ∷ Check ∷ Window ∷ Workers ∷ []
 names_of Rtcp = Every ∷ Reporter ∷ Cname ∷ BySender ∷ Ntp ∷ Packets ∷ Pcap ∷ Port ∷ []
 names_of RtcpShow = Packets ∷ Pcap ∷ Port ∷ []
-names_of Record = Packets ∷ Sessions ∷ Idle ∷ At ∷ []
-names_of Replay = Packets ∷ Pace ∷ To ∷ []
+names_of Record = Packets ∷ Sessions ∷ Idle ∷ Seconds ∷ At ∷ Progress ∷ []
+names_of Replay = Packets ∷ Pace ∷ To ∷ Progress ∷ []
 
 -- the first of some options whose word this is
 abbrev pub name_in : List Name → List ℕ → Option Name

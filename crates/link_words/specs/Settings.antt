@@ -186,7 +186,9 @@ generator words = if generating_fits (given_frames words) then Some (generating_
 
 -- ---- commands
 
--- a command with what it is set to
+-- a command with what it is set to. How often it says how far it is (--progress), for how long its wire
+-- listens (--seconds, and --frames of recv) and with how many frames its input ends (--first) is no part of
+-- it.
 pub data Meaning : Type 0 where
   ToDecode : (window workers packets : ℕ) (pcap : Option ℕ) → Meaning
   ToEncode : (sender : Sending) (frames workers : ℕ) → Meaning

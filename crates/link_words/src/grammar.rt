@@ -137,7 +137,7 @@ fn excludes(earlier: &str, later: &str) -> bool
         || (is_speed(earlier) && is_speed(later))
 }
 
-fn excluded_at(words: &Words, place: usize, earlier: usize) -> bool
+pub(crate) fn excluded_at(words: &Words, place: usize, earlier: usize) -> bool
     requires place { place < length words.now }
     requires earlier { earlier < length words.now }
     ensures { result ≡ excluded_at words.now place earlier }
@@ -159,7 +159,7 @@ fn is_given_before(words: &Words, place: usize) -> bool
     false
 }
 
-fn option_at(command: Command, words: &Words, place: usize) -> Option<Name>
+pub(crate) fn option_at(command: Command, words: &Words, place: usize) -> Option<Name>
     requires { place < length words.now }
     ensures { result ≡ option_at command words.now place }
 {

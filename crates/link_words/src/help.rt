@@ -6,7 +6,7 @@ use crate::options::{Command, Name, Values, command_of, names_of, option_row};
 use std::alloc::Global;
 use vc_types::NoMemory;
 
-const HEAD: [&str; 8] = [
+const HEAD: [&str; 7] = [
     "vc2link: VC-2 pictures over RTP (SMPTE ST 2042-1, RFC 8450)",
     "",
     "usage: vc2link COMMAND [--NAME VALUE]..",
@@ -14,8 +14,11 @@ const HEAD: [&str; 8] = [
     "       vc2link COMMAND --help",
     "       vc2link --version",
     "",
-    "Commands, each with what it reads and writes and its options",
 ];
+
+const ALL_COMMANDS: &str = "Commands, each with what it reads and writes and its options\n";
+
+const COMMANDS_ALONE: &str = "Commands, each with what it reads and writes\n";
 
 const FILES: [&str; 10] = [
     "",
@@ -55,6 +58,11 @@ const ELSEWHERE: [&str; 2] = [
     "See vc2link --help for the files, the statuses and the other commands.",
 ];
 
+const OPTIONS_ELSEWHERE: [&str; 2] = [
+    "",
+    "See vc2link COMMAND --help for a command's options, and vc2link --help for all that there is.",
+];
+
 const EXAMPLES: [&str; 7] = [
     "",
     "Examples",
@@ -71,6 +79,14 @@ const EXAMPLES: [&str; 7] = [
 pub fn help_page(alloc: Global) -> Result<String, NoMemory> {
     let mut page = String::new(alloc);
     push_page(&mut page)?;
+    Ok(page)
+}
+
+/// The page of a reader who knows no command: the head of the other one, and what each command reads and
+/// writes.
+pub fn overview_page(alloc: Global) -> Result<String, NoMemory> {
+    let mut page = String::new(alloc);
+    push_overview(&mut page)?;
     Ok(page)
 }
 
@@ -100,8 +116,19 @@ fn push_command_page(page: &mut String, command: Command) -> Result<(), NoMemory
     push_lines(page, &ELSEWHERE)
 }
 
+pub(crate) fn push_overview(page: &mut String) -> Result<(), NoMemory> {
+    push_lines(page, &HEAD)?;
+    push_words(page, COMMANDS_ALONE)?;
+    for (command, job) in &COMMANDS {
+        push_job(page, word_of(*command), job)?;
+        push_words(page, "\n")?;
+    }
+    push_lines(page, &OPTIONS_ELSEWHERE)
+}
+
 fn push_page(page: &mut String) -> Result<(), NoMemory> {
     push_lines(page, &HEAD)?;
+    push_words(page, ALL_COMMANDS)?;
     push_commands(page)?;
     push_options(page)?;
     push_lines(page, &FILES)?;
@@ -133,7 +160,7 @@ fn push_lines(page: &mut String, lines: &[&str]) -> Result<(), NoMemory> {
 }
 
 /// The word of a command.
-fn word_of(command: Command) -> &'static str
+pub(crate) fn word_of(command: Command) -> &'static str
     ensures { command_of result.now ≡ Some command }
 {
     match command {
@@ -186,39 +213,55 @@ fn push_meaning(page: &mut String, meaning: &str) -> Result<(), NoMemory> {
     Ok(())
 }
 
+// Which values are accepted, and which is meant where none is given.
 fn push_values(page: &mut String, values: Values) -> Result<(), NoMemory> {
+    push_accepted(page, values)?;
     match values {
-        Values::Number(low, high, default) => push_number(page, low, high, default),
-        Values::Optional(low, high) => push_range(page, low, high, "none by default"),
-        Values::Required(low, high) => push_range(page, low, high, "required"),
-        Values::Subsampling => push_words(page, "444, 422 or 420; 422 by default"),
-        Values::Pair => push_words(
-            page,
-            "two of 1 to 65535 with x between; 16 by 8 samples each by default",
-        ),
-        Values::Ratio(high) => push_ratio(page, high),
-        Values::Address => push_words(page, "an address, required"),
-        Values::Text => push_words(page, "1 to 255 bytes of ASCII, vc2link by default"),
+        Values::Number(_, _, default) => push_default(page, default),
+        Values::Optional(_, _) => push_words(page, ", none by default"),
+        Values::Required(_, _) | Values::Address => push_words(page, ", required"),
+        Values::Subsampling => push_words(page, "; 422 by default"),
+        Values::Pair => push_words(page, "; 16 by 8 samples each by default"),
+        Values::Ratio(_) => push_words(page, "; none by default"),
+        Values::Text => push_words(page, ", vc2link by default"),
     }
 }
 
-fn push_number(page: &mut String, low: u32, high: u32, default: u32) -> Result<(), NoMemory> {
-    write!(page, "{low} to {high}, {default} by default")?;
+/// Which values are accepted.
+pub(crate) fn push_accepted(page: &mut String, values: Values) -> Result<(), NoMemory> {
+    match values {
+        Values::Number(low, high, _) | Values::Optional(low, high) | Values::Required(low, high) =>
+            { push_range(page, low, high) }
+        Values::Subsampling => push_words(page, "444, 422 or 420"),
+        Values::Pair => push_words(page, "two of 1 to 65535 with x between, as 120x135"),
+        Values::Ratio(high) => push_ratio(page, high),
+        Values::Address => push_words(page, "an address"),
+        Values::Text => push_words(page, "1 to 255 bytes of ASCII"),
+    }
+}
+
+fn push_range(page: &mut String, low: u32, high: u32) -> Result<(), NoMemory> {
+    write!(page, "{low} to {high}")?;
     Ok(())
 }
 
+// The larger ones are rates of frames, the others sides of pixels.
 fn push_ratio(page: &mut String, high: u32) -> Result<(), NoMemory> {
-    write!(page, "two of 1 to {high} with : between; none by default")?;
+    let example = if high == u32::MAX {
+        "30000:1001"
+    } else {
+        "12:11"
+    };
+    write!(page, "two of 1 to {high} with : between, as {example}")?;
     Ok(())
 }
 
-// A range, and what is meant where no number is given.
-fn push_range(page: &mut String, low: u32, high: u32, without: &str) -> Result<(), NoMemory> {
-    write!(page, "{low} to {high}, {without}")?;
+fn push_default(page: &mut String, default: u32) -> Result<(), NoMemory> {
+    write!(page, ", {default} by default")?;
     Ok(())
 }
 
-fn push_words(page: &mut String, words: &str) -> Result<(), NoMemory> {
+pub(crate) fn push_words(page: &mut String, words: &str) -> Result<(), NoMemory> {
     page.push_str(words)?;
     Ok(())
 }

@@ -57,7 +57,7 @@ pub(crate) const COMMANDS: [(Command, &str); 13] = [
 ];
 
 /// The options in the order of the page, each with what it means.
-pub(crate) const NAMES: [(Name, &str); 42] = [
+pub(crate) const NAMES: [(Name, &str); 46] = [
     (Name::Width, "samples in a row of luma"),
     (Name::Height, "rows of luma in a frame"),
     (Name::Sampling, "4:4:4, 4:2:2 or 4:2:0"),
@@ -117,6 +117,10 @@ pub(crate) const NAMES: [(Name, &str); 42] = [
     (Name::Pt, "the payload type in RTP"),
     (Name::Frames, "frames at most"),
     (
+        Name::First,
+        "frames of the input that are read, which ends with them; 0: all",
+    ),
+    (
         Name::Pace,
         "1: datagrams wait for the moments of their timestamps; 0: they go as fast as they can",
     ),
@@ -146,6 +150,18 @@ pub(crate) const NAMES: [(Name, &str); 42] = [
     (
         Name::Idle,
         "seconds without a datagram of use, after which it ends; 0: it waits for ever",
+    ),
+    (
+        Name::Seconds,
+        "seconds after which it listens no longer, whatever comes; 0: it goes on",
+    ),
+    (
+        Name::Written,
+        "frames after which it listens no longer; those of open pictures follow; 0: it goes on",
+    ),
+    (
+        Name::Progress,
+        "seconds from one line that says how far it is to the next; 0: none",
     ),
     (Name::Seed, "where the noise begins"),
     (Name::Count, "frames that are generated"),

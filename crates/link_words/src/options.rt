@@ -2,10 +2,10 @@ ghost use Rattle.std.specs.Prelude.{◌≡◌};
 ghost use Rattle.link_words.specs.Options.{command_of, names_of, option_row, name_in, is_required};
 
 use Name::{
-    Aspect, At, Budget, BySender, Check, Cname, Colour, Count, Depth, Every, Fields, Fit, Frames,
-    Height, Idle, Index, Ntp, Pace, Packets, Pcap, Picture, Port, Prefix, Pt, Range, Rate,
-    Reporter, Sampling, Scaler, Seed, Seq, Sessions, Size, Slices, Ssrc, Tick, To, Top, Wavelet,
-    Width, Window, Workers,
+    Aspect, At, Budget, BySender, Check, Cname, Colour, Count, Depth, Every, Fields, First, Fit,
+    Frames, Height, Idle, Index, Ntp, Pace, Packets, Pcap, Picture, Port, Prefix, Progress, Pt,
+    Range, Rate, Reporter, Sampling, Scaler, Seconds, Seed, Seq, Sessions, Size, Slices, Ssrc,
+    Tick, To, Top, Wavelet, Width, Window, Workers, Written,
 };
 use Values::{Address, Number, Optional, Pair, Ratio, Required, Subsampling, Text};
 
@@ -27,8 +27,8 @@ pub(crate) enum Command {
     Replay,
 }
 
-/// The options of all commands. `--frames` is two: how many are sent, and how many are generated. So is
-/// `--ssrc`: a sender's number, and a reporter's.
+/// The options of all commands. `--frames` is three: how many are sent, how many are generated, and how many
+/// are written before a wire listens no longer. `--ssrc` is two: a sender's number, and a reporter's.
 #[derive(Clone, Copy, PartialEq)]
 pub(crate) enum Name {
     Width,
@@ -64,6 +64,10 @@ pub(crate) enum Name {
     Pcap,
     Port,
     Idle,
+    Seconds,
+    Written,
+    First,
+    Progress,
     Sessions,
     Pace,
     To,
@@ -153,6 +157,10 @@ pub(crate) fn option_row(name: Name) -> (&'static str, Values)
         Pcap => ("--pcap", Number(0, 1, 0)),
         Port => ("--port", Number(0, 65535, 0)),
         Idle => ("--idle", Number(0, 86400, 0)),
+        Seconds => ("--seconds", Number(0, 86400, 0)),
+        Written => ("--frames", Number(0, 4294967295, 0)),
+        First => ("--first", Number(0, 4294967295, 0)),
+        Progress => ("--progress", Number(0, 86400, 0)),
         Sessions => ("--sessions", Number(1, 4294967295, 1)),
         Pace => ("--pace", Number(0, 1, 1)),
         To => ("--to", Address),
@@ -170,32 +178,35 @@ pub(crate) fn names_of(command: Command) -> &'static [Name]
     ensures { result.now ≡ names_of command }
 {
     match command {
-        Command::Decode | Command::Unpack => &[Window, Workers, Packets, Pcap, Port],
+        Command::Decode => &[Window, Workers, Packets, Pcap, Port, Progress],
+        Command::Unpack => &[Window, Workers, Packets, Pcap, Port],
         Command::Encode => &[
             Width, Height, Sampling, Range, Fields, Top, Wavelet, Depth, Slices, Prefix, Scaler,
             Size, Index, Fit, Budget, Ssrc, Seq, Picture, Tick, Rate, Aspect, Colour, Pt, Frames,
-            Workers,
+            First, Workers, Progress,
         ],
         Command::Send => &[
             Width, Height, Sampling, Range, Fields, Top, Wavelet, Depth, Slices, Prefix, Scaler,
             Size, Index, Fit, Budget, Ssrc, Seq, Picture, Tick, Rate, Aspect, Colour, Pt, Frames,
-            Workers, Pace, To,
+            First, Workers, Pace, To, Progress,
         ],
-        Command::Recv => &[Window, Workers, Packets, Sessions, Idle, At],
+        Command::Recv => &[
+            Window, Workers, Packets, Sessions, Idle, Seconds, Written, At, Progress,
+        ],
         Command::Loop => &[
             Width, Height, Sampling, Range, Fields, Top, Wavelet, Depth, Slices, Prefix, Scaler,
             Size, Index, Fit, Budget, Ssrc, Seq, Picture, Tick, Rate, Aspect, Colour, Pt, Frames,
-            Window, Workers, At,
+            First, Window, Workers, At, Progress,
         ],
         Command::Pack => &[Packets, Size, Ssrc, Pt, Seq, Tick, Rate],
-        Command::Play => &[Packets],
+        Command::Play => &[Packets, Progress],
         Command::Gen => &[
             Width, Height, Sampling, Range, Fields, Top, Seed, Count, Check, Window, Workers,
         ],
         Command::Rtcp => &[Every, Reporter, Cname, BySender, Ntp, Packets, Pcap, Port],
         Command::RtcpShow => &[Packets, Pcap, Port],
-        Command::Record => &[Packets, Sessions, Idle, At],
-        Command::Replay => &[Packets, Pace, To],
+        Command::Record => &[Packets, Sessions, Idle, Seconds, At, Progress],
+        Command::Replay => &[Packets, Pace, To, Progress],
     }
 }
 

@@ -9,7 +9,7 @@ use crate::lookup::{choice_of, given, is_set, rate_of, tells_whole, told_by, val
 use crate::options::Name;
 use vc_types::{GenSettings, Sampling, SendSettings, Words, dimensions_fit, slices_fit};
 
-fn given_sampling(words: &Words) -> Sampling
+pub(crate) fn given_sampling(words: &Words) -> Sampling
     requires { 0 < length words.now }
     ensures { result ≡ given_sampling words.now }
 {
@@ -17,7 +17,7 @@ fn given_sampling(words: &Words) -> Sampling
 }
 
 // How many slices a picture has across and down.
-fn given_slices(words: &Words, width: u32, height: u32, fields: bool) -> (u32, u32)
+pub(crate) fn given_slices(words: &Words, width: u32, height: u32, fields: bool) -> (u32, u32)
     requires some { 0 < length words.now }
     requires width { width ≤ 8192 }
     requires height { height ≤ 8192 }

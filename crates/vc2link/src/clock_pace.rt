@@ -1,3 +1,4 @@
+use run_counts::RunCounts;
 use std::thread;
 use std::time::{Clock, Duration, Instant};
 use vc_ports::{Pace, Turn};
@@ -18,8 +19,10 @@ const GROUP: u64 = 500_000;
 /// is left, the schedule moves, so that a quarter is left. Where nobody knows how long a picture's time is
 /// and how many datagrams it has, both are taken to be as they were for the picture before.
 #[derive(Drop)]
-pub(crate) struct ClockPace<C> {
+pub(crate) struct ClockPace<'w, C> {
     clock: C,
+    // Told by how much a datagram is late.
+    watch: &'w RunCounts,
     start: Option<Instant>,
     picture: Option<Picture>,
 }
@@ -93,10 +96,11 @@ impl Picture {
     }
 }
 
-impl<C: Clock> ClockPace<C> {
-    pub(crate) fn new(clock: C) -> ClockPace<C> {
+impl<'w, C: Clock> ClockPace<'w, C> {
+    pub(crate) fn new(clock: C, watch: &'w RunCounts) -> ClockPace<'w, C> {
         ClockPace {
             clock,
+            watch,
             start: None,
             picture: None,
         }
@@ -134,7 +138,7 @@ impl<C: Clock> ClockPace<C> {
     }
 }
 
-impl<C: Clock> Pace for ClockPace<C> {
+impl<'w, C: Clock> Pace for ClockPace<'w, C> {
     fn wait(&mut self, turn: &Turn) {
         let Some(now) = self.now() else {
             return;
@@ -143,7 +147,10 @@ impl<C: Clock> Pace for ClockPace<C> {
             return;
         };
         self.picture = Some(picture);
-        let left = picture.moment().saturating_sub(now);
+        let moment = picture.moment();
+        self.watch
+            .tell_behind(now.saturating_sub(moment) / 1_000_000);
+        let left = moment.saturating_sub(now);
         if left > GROUP {
             thread::sleep(&self.clock, Duration::from_nanos(left));
         }

@@ -1,19 +1,32 @@
 //! vc2link: a studio link for VC-2 pictures.
 #![tactic(auto)]
 
+mod beginning;
 mod clock_pace;
+mod last_report;
+mod limited;
 mod notes;
+mod plan;
+mod ports;
+mod running;
 mod std_streams;
+mod wrong_input;
 
+use beginning::{Beginning, Kept};
 use clock_pace::ClockPace;
-use link_net::{Launcher, Limits, LiveWire, Reader};
+use last_report::LastReport;
+use limited::Limited;
+use link_net::{Launcher, Limits, LiveWire, Reader, WireNotes};
 use link_program::{link_main, print_page};
 use link_report::Ending;
 use link_words::{Settings, read_words};
-use notes::{say_help, say_no_text, say_notes};
+use notes::{say_missing, say_mistake, say_no_text, say_notes};
+use plan::Plan;
+use run_counts::{MissingFrames, RunCounts};
+use running::RunningLines;
 use slice_pool::{Crew, Worker};
 use std::alloc::Global;
-use std::io::BufReader;
+use std::io::{BufReader, IsTerminal};
 use std::net::Net;
 use std::process::ExitCode;
 use std::sync::{Arc, Wait};
@@ -23,6 +36,7 @@ use std::{env, io};
 use std_streams::{Awaited, hold_closed};
 use vc_ports::{NoGate, Sink, Source, StdSink, StdSource};
 use vc_types::{NoMemory, Words};
+use wrong_input::{Seen, bytes_to_see, say_input};
 
 // Nearly the 32 MiB beyond which glibc takes each block from the system alone.
 const LARGE_BLOCK: usize = 33_488_896;
@@ -77,6 +91,8 @@ fn read_ahead(words: &Words) -> usize {
 const LIMITS: Limits = Limits {
     room: 64 << 20,
     system: 64 << 20,
+    seconds: 0,
+    frames: 0,
 };
 
 // The streams of a run, each borrowed.
@@ -87,14 +103,49 @@ struct Streams<'a, 'b, 'c, S, O, E> {
     report: &'c mut E,
 }
 
+// What a run has beside them: a way to start the thread that receives, and what the words ask for beside the
+// command.
+#[derive(Drop)]
+struct Beside {
+    launcher: Launcher,
+    plan: Plan,
+}
+
+// What a run came to: its status, and what its wire has to say.
+#[derive(Drop)]
+struct Ended {
+    status: u8,
+    notes: WireNotes,
+}
+
+// Says behind the report what is known beside it.
+fn say_rest<E: Sink>(
+    alloc: Global,
+    words: &Words,
+    ended: &Ended,
+    missing: Option<MissingFrames>,
+    report: &mut E,
+) {
+    let has_wire_failed = ended.status == Ending::WireFailed.status();
+    say_notes(alloc, &ended.notes, has_wire_failed, report);
+    if let Some(missing) = missing {
+        say_missing(alloc, &missing, report);
+    }
+    if ended.status == usage_status() {
+        say_mistake(alloc, words, report);
+    }
+}
+
 // Prints the page that the words ask for. Otherwise does what they say with a crew and a wire at hand, which
-// are stopped whatever that came to.
+// are stopped whatever that came to, tells counts meanwhile, and says behind the report what is known beside
+// it.
 fn run<H: Threads + Wait + Net + Clock + Copy + Send + Sync + 'static, S: Source, O: Sink, E: Sink>(
     rt: H,
     alloc: Global,
     words: &Words,
     streams: Streams<S, O, E>,
-    launcher: Launcher,
+    beside: Beside,
+    counts: &RunCounts,
 ) -> u8 {
     let Streams {
         input,
@@ -107,29 +158,58 @@ fn run<H: Threads + Wait + Net + Clock + Copy + Send + Sync + 'static, S: Source
     let Ok(gate) = Arc::new(alloc, NoGate) else {
         return Ending::NoMemory.status();
     };
-    let mut wire = LiveWire::new(rt, alloc, LIMITS, launcher);
-    let mut pace = ClockPace::new(rt);
+    let Beside { launcher, plan } = beside;
+    let mut wire = LiveWire::new(rt, alloc, plan.limits(LIMITS), launcher, Some(counts));
+    let mut pace = ClockPace::new(rt, counts);
     let mut crew = Crew::new(rt, alloc, |worker: Worker| worker.start(rt, &gate));
     let status = link_main(
-        rt, alloc, words, input, output, report, &mut wire, &mut pace, &mut crew,
+        rt,
+        alloc,
+        words,
+        input,
+        output,
+        report,
+        &mut wire,
+        &mut pace,
+        Some(counts),
+        &mut crew,
     );
     crew.stop();
-    let notes = wire.stop();
-    say_notes(alloc, &notes, status == Ending::WireFailed.status(), report);
-    if status == usage_status() {
-        say_help(report);
-    }
+    let ended = Ended {
+        status,
+        notes: wire.stop(),
+    };
+    let missing = if plan.says_missing {
+        counts.missing()
+    } else {
+        None
+    };
+    say_rest(alloc, words, &ended, missing, report);
     status
+}
+
+// Begins the lines that say how far a command is, if there are to be any and can be.
+fn lines_of<H, L: Sink + Drop + Send + 'static>(
+    rt: H,
+    alloc: Global,
+    plan: &Plan,
+    counts: &Arc<RunCounts>,
+    lines: L,
+) -> Option<RunningLines>
+where
+    H: Threads + Wait + Clock + Copy + Send + Sync + 'static,
+{
+    let form = plan.lines?;
+    let counts = Arc::try_clone(counts).ok()?;
+    RunningLines::start(rt, alloc, form, counts, lines)
 }
 
 fn main(rt: HostRuntime) -> ExitCode {
     hold_closed();
     // Where there is no room for the block, blocks come and go as they would.
     let _ = keep_large_blocks(rt.alloc());
-    let mut report = StdSink::new(Awaited {
-        stream: rt.stderr(),
-        number: 2,
-    });
+    let mut said = Beginning::new(rt.alloc(), 16);
+    let mut report = StdSink::new(Kept::new(Awaited::new(rt.stderr(), 2), &mut said));
     let words = match words_of(&rt) {
         Ok(words) => words,
         Err(status) => {
@@ -139,9 +219,11 @@ fn main(rt: HostRuntime) -> ExitCode {
             return ExitCode::from(status);
         }
     };
-    let stdin = Awaited {
-        stream: rt.stdin(),
-        number: 0,
+    let plan = Plan::of(&words, rt.stderr().is_terminal());
+    let mut read = Beginning::new(rt.alloc(), bytes_to_see(&words));
+    let stdin = Limited {
+        stream: Kept::new(Awaited::new(rt.stdin(), 0), &mut read),
+        left: plan.most,
     };
     // With no room a read goes straight to the stream.
     let Ok(stdin) = BufReader::with_capacity(rt.alloc(), read_ahead(&words), stdin) else {
@@ -151,15 +233,33 @@ fn main(rt: HostRuntime) -> ExitCode {
         return ExitCode::from(Ending::NoMemory.status());
     };
     let mut input = StdSource::new(stdin);
-    let mut output = StdSink::new(Awaited {
-        stream: rt.stdout(),
-        number: 1,
-    });
+    let mut output = StdSink::new(Awaited::new(rt.stdout(), 1));
+    let Ok(counts) = Arc::new(rt.alloc(), RunCounts::new()) else {
+        return ExitCode::from(Ending::NoMemory.status());
+    };
+    let lines = StdSink::new(Awaited::new(rt.stderr(), 2));
+    let mut last = LastReport {
+        report,
+        rt,
+        lines: lines_of(rt, rt.alloc(), &plan, &counts, lines),
+    };
     let streams = Streams {
         input: &mut input,
         output: &mut output,
-        report: &mut report,
+        report: &mut last,
     };
-    let launcher = Launcher::new(start);
-    ExitCode::from(run(rt, rt.alloc(), &words, streams, launcher))
+    let beside = Beside {
+        launcher: Launcher::new(start),
+        plan,
+    };
+    let status = run(rt, rt.alloc(), &words, streams, beside, &counts);
+    drop(input);
+    last.stop();
+    let seen = Seen {
+        input: read.bytes(),
+        report: said.bytes(),
+    };
+    let mut notes = StdSink::new(Awaited::new(rt.stderr(), 2));
+    say_input(rt.alloc(), &words, status, seen, &mut notes);
+    ExitCode::from(status)
 }

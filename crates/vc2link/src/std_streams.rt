@@ -42,8 +42,15 @@ fn events_of(number: i32, events: i16, millis: i32) -> i16 {
 /// Reads a stream that may answer that nothing came yet, and waits until something did.
 #[derive(Drop)]
 pub(crate) struct Awaited<S> {
-    pub(crate) stream: S,
-    pub(crate) number: i32,
+    stream: S,
+    number: i32,
+}
+
+impl<S> Awaited<S> {
+    /// The stream with this descriptor.
+    pub(crate) fn new(stream: S, number: i32) -> Awaited<S> {
+        Awaited { stream, number }
+    }
 }
 
 impl<S: Read> Read for Awaited<S> {

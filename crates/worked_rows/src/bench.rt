@@ -83,6 +83,7 @@ impl Bench {
             &mut self.report,
             wire,
             &mut self.pace,
+            None,
             hands,
         )
     }

@@ -1,6 +1,7 @@
 //! Captures, and the words that they are decoded by.
 
 use link_program::link_main;
+use run_counts::RunCounts;
 use std::alloc::Global;
 use std::test::Fail;
 use std::thread::Threads;
@@ -8,21 +9,23 @@ use vc_ports::{MemSink, MemWire, NoPace, Source};
 use vc_slice::Hands;
 use vc_types::{NoMemory, Words};
 
-/// What the program writes to and calls.
+/// What the program writes to, calls and tells.
 #[derive(Drop)]
 pub(crate) struct Outside {
     pub(crate) output: MemSink,
     report: MemSink,
     wire: MemWire,
+    pub(crate) counts: RunCounts,
 }
 
 impl Outside {
-    /// An output that has room for so many bytes, a report, and a wire that nothing comes from.
+    /// An output that has room for so many bytes, a report, a wire that nothing comes from, and counts.
     pub(crate) fn new(alloc: Global, room: usize) -> Result<Outside, NoMemory> {
         Ok(Outside {
             output: MemSink::new(alloc, room, Vec::new(alloc))?,
             report: MemSink::new(alloc, 1000, Vec::new(alloc))?,
             wire: MemWire::new(alloc, Vec::new(alloc), false, 0, Vec::new(alloc))?,
+            counts: RunCounts::new(),
         })
     }
 
@@ -46,6 +49,7 @@ impl Outside {
             &mut self.report,
             &mut self.wire,
             &mut NoPace,
+            Some(&self.counts),
             hands,
         )
     }

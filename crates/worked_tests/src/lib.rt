@@ -34,3 +34,5 @@ mod tally;
 mod told;
 #[cfg(test)]
 mod udp;
+#[cfg(test)]
+mod watched;

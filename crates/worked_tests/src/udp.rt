@@ -1,6 +1,7 @@
 //! The system's sockets.
 
 use link_net::{Launcher, Limits, LiveWire, Reader, WireNotes};
+use run_counts::RunCounts;
 use std::alloc::Global;
 use std::test::Fail;
 use std::time::{Clock, Duration, Instant};
@@ -17,6 +18,8 @@ const PLACES: [&str; 4] = [
 const LIMITS: Limits = Limits {
     room: 1 << 20,
     system: 1 << 20,
+    seconds: 0,
+    frames: 0,
 };
 
 // What comes from a wire that three bytes are sent over to itself, if it can have the place.
@@ -41,14 +44,18 @@ fn comes_back<N: Wire>(
 
 #[test]
 fn three_bytes_come_back(rt: HostRuntime) -> Result<(), Fail> {
+    let counts = RunCounts::new();
     for place in PLACES {
         let start = Box::new(rt.alloc(), move |reader: Reader| reader.start(rt))?;
-        let mut wire = LiveWire::new(rt, rt.alloc(), LIMITS, Launcher::new(start));
+        let mut wire = LiveWire::new(rt, rt.alloc(), LIMITS, Launcher::new(start), Some(&counts));
         let came = comes_back(&mut wire, place, rt.alloc());
         let notes = wire.stop();
         if let Some(came) = came? {
             assert_eq!(rt; came, (Came::Datagram(3), [1, 2, 3]));
             assert_eq!(rt; (notes.unsent, dropped(&notes)), (0, Some(0)));
+            let counts = counts.read();
+            assert_eq!(rt; (counts.sent.datagrams, counts.sent.bytes), (1, 3));
+            assert_eq!(rt; (counts.came.datagrams, counts.came.bytes), (1, 3));
             return Ok(());
         }
     }
@@ -60,14 +67,13 @@ fn dropped(notes: &WireNotes) -> Option<u64> {
 }
 
 // What comes after so long from a wire to which nothing is sent, if it can have the place.
-fn silence<C: Clock, N: Wire>(
+fn await_end<C: Clock, N: Wire>(
     clock: &C,
     wire: &mut N,
     place: &str,
     alloc: Global,
 ) -> Result<Option<(Came, Duration)>, Fail> {
     let mut buf = vec![in alloc; 0; 65535]?;
-    wire.end_after(1);
     let start = Instant::now(clock)?;
     let Reached::Yes = wire.listen(place) else {
         return Ok(None);
@@ -80,12 +86,59 @@ fn silence<C: Clock, N: Wire>(
 fn silence_ends_after_its_second_and_no_sooner(rt: HostRuntime) -> Result<(), Fail> {
     for place in PLACES {
         let start = Box::new(rt.alloc(), move |reader: Reader| reader.start(rt))?;
-        let mut wire = LiveWire::new(rt, rt.alloc(), LIMITS, Launcher::new(start));
-        let came = silence(&rt, &mut wire, place, rt.alloc());
+        let mut wire = LiveWire::new(rt, rt.alloc(), LIMITS, Launcher::new(start), None);
+        wire.end_after(1);
+        let came = await_end(&rt, &mut wire, place, rt.alloc());
         wire.stop();
         if let Some((came, after)) = came? {
             assert_eq!(rt; came, Came::End);
             assert!(rt; after >= Duration::from_secs(1));
+            return Ok(());
+        }
+    }
+    Err("no place is free")?
+}
+
+#[test]
+fn a_wire_ends_after_its_seconds_and_no_sooner(rt: HostRuntime) -> Result<(), Fail> {
+    let counts = RunCounts::new();
+    counts.tell_frames(2);
+    let limits = Limits {
+        seconds: 1,
+        frames: 3,
+        ..LIMITS
+    };
+    for place in PLACES {
+        let start = Box::new(rt.alloc(), move |reader: Reader| reader.start(rt))?;
+        let mut wire = LiveWire::new(rt, rt.alloc(), limits, Launcher::new(start), Some(&counts));
+        let came = await_end(&rt, &mut wire, place, rt.alloc());
+        wire.stop();
+        if let Some((came, after)) = came? {
+            assert_eq!(rt; came, Came::End);
+            assert!(rt; after >= Duration::from_secs(1));
+            return Ok(());
+        }
+    }
+    Err("no place is free")?
+}
+
+#[test]
+fn a_wire_ends_once_its_frames_are_written(rt: HostRuntime) -> Result<(), Fail> {
+    let counts = RunCounts::new();
+    counts.tell_frames(3);
+    let limits = Limits {
+        seconds: 60,
+        frames: 3,
+        ..LIMITS
+    };
+    for place in PLACES {
+        let start = Box::new(rt.alloc(), move |reader: Reader| reader.start(rt))?;
+        let mut wire = LiveWire::new(rt, rt.alloc(), limits, Launcher::new(start), Some(&counts));
+        let came = await_end(&rt, &mut wire, place, rt.alloc());
+        wire.stop();
+        if let Some((came, after)) = came? {
+            assert_eq!(rt; came, Came::End);
+            assert!(rt; after < Duration::from_secs(60));
             return Ok(());
         }
     }

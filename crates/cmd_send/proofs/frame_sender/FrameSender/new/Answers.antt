@@ -7,8 +7,8 @@ use Rattle.cmd_send.proofs.frame_sender.FrameSender.new.Goals as goal
 
 pub returns-clause-behind : goal.returns-clause-behind
 returns-clause-behind g c = record {
-  settings_are = ap sending_view c.new.ensures.settings;
-  numbers_are = c.new.ensures.numbers ∙ numbers_none (sending_view c.args.options.sender) (omega arith);
+  settings_are = ap sending_view c.new-sender.ensures.settings;
+  numbers_are = c.new-sender.ensures.numbers ∙ numbers_none (sending_view c.args.options.sender) (omega arith);
   sendable = All-nil (λ frame. frame_fault (sending_view c.args.options.sender) frame ≡ None);
   totals_are = totals_none (sending_view c.args.options.sender);
 }
