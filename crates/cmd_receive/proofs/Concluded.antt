@@ -1,12 +1,13 @@
 -- What a command came to: datagrams were heard since workers were started, and then the end.
-use Rattle.std.proofs.Common.{◌≡◌, true, false, ◌≤◌, ℕ, List, [], ◌∷◌, Option, None, Some, Ok, Err, refl, ap, ◌∙◌, subst, sym, arith, inl, inr}
+use Rattle.std.proofs.Common.{◌≡◌, Bool, true, false, ◌≤◌, ℕ, List, [], ◌∷◌, Option, None, Some, Ok, Err, refl, ap, ◌∙◌, subst, sym, arith, inl, inr}
 use Rattle.std.specs.Prelude.{Result, ◌⊎◌}
 use Rattle.link_model.specs.Judgement.{no_counts, outcomes_behind, tally_of, with_sessions}
+use Rattle.fill_model.specs.FilledSessions.{all_filled, filled_output}
 use Rattle.link_model.specs.Output.{all_output, full_output}
 use Rattle.link_model.specs.declared.tally.Tally.{Tally}
 use Rattle.link_receiver.proofs.Asked.{grows_twice}
 use Rattle.link_receiver.proofs.Hired.{started}
-use Rattle.link_receiver.specs.HeardLists.{OutputForm, AsFrames, HasHeard}
+use Rattle.link_receiver.specs.HeardLists.{OutputForm, HasHeard, due_in_all, frames_form}
 use Rattle.link_receiver.specs.StartedWorkers.{HasStarted}
 use Rattle.link_report.specs.declared.answer.Answer.{Answer}
 use Rattle.link_report.specs.declared.answer.Answer.TheVariants.{Done, Drained, WithRecords, Stopped}
@@ -242,14 +243,14 @@ module _ (form : OutputForm) (window workers : ℕ) (before : Option Told) (x y 
     passed : HeardAt at wire ds
     passed = rw (← is, ← is_of) h.given.passes
 
-    judged : {tally : Tally} → HasEndedSince AsFrames window x.held x.asked y ds tally
-        → IsJudged window tally (output x y) ds
+    judged : {tally : Tally} → HasEndedSince form window x.held x.asked y ds tally
+        → IsJudged form window tally (output x y) ds
     judged e = record { wrote = e.wrote; tally_is = e.counted }
 
     drained : (tally : Tally) (end : Ending) → has_broken end ≡ false
         → WireHeard packets sessions (told_between listens after j k) x mid ds (Err end)
-        → IsJudged window tally (output x y) ds
-        → RecvEnded window packets sessions at (Drained (Judged tally) end) wire (output x y) ds
+        → IsJudged form window tally (output x y) ds
+        → RecvEnded form window packets sessions at (Drained (Judged tally) end) wire (output x y) ds
     drained tally WireFailed not so e = (inl passed, e)
     drained tally (PacketLimit limit) not so e = (passed, so.1, e)
     drained tally NoMemory not so e = absurd cc
@@ -259,19 +260,19 @@ module _ (form : OutputForm) (window workers : ℕ) (before : Option Told) (x y 
     so : WireHeard packets sessions (told_between listens after j k) x mid ds heard
     so = rw is_of at h.heard
 
-    wire_did : (answer : Answer) → CameTo AsFrames window x y ds heard answer
+    wire_did : (answer : Answer) → CameTo form window x y ds heard answer
         → has_failed_wire answer → HasRisen wire.faults
     wire_did answer c failed =
-        let drained = drained_so AsFrames window x y ds heard failed.0 WireFailed (rw failed.1 at c) in
+        let drained = drained_so form window x y ds heard failed.0 WireFailed (rw failed.1 at c) in
         omega (arith, later, (rw drained at so).1)
 
     to_end : HeardToEnd packets sessions (told_between listens after j k) ds
         → HeardToEnd packets sessions wire ds
     to_end ended = subst (λ (t : WireTold). HeardToEnd packets sessions (told_between t after j k) ds) is ended
 
-    recv_ended : HasHeard AsFrames x.receiver window [] → (answer : Answer)
-        → CameTo AsFrames window x y ds heard answer
-        → RecvEnded window packets sessions at answer wire (output x y) ds
+    recv_ended : HasHeard form x.receiver window [] → (answer : Answer)
+        → CameTo form window x y ds heard answer
+        → RecvEnded form window packets sessions at answer wire (output x y) ds
     recv_ended new (Done (Judged tally)) c = (passed, to_end (rw c.0 at so).1, judged c.1)
     recv_ended new (Drained (Judged tally) end) c = drained tally end c.1 (rw c.0 at so) (judged c.2)
     recv_ended new (Stopped NoMemory) c = (inl passed, heard_part new c)
@@ -315,26 +316,26 @@ module _ (O P : Type 0) (held : O → Option (List ℕ)) (faults : O → ℕ) (a
       rw (← first, o_is, p_is) took
 
   module _ (N : Type 0) (told : N → WireTold) (wire_faults : N → ℕ) (n_old n_left n_end : N) where
-    pub datagrams_back : (window workers packets sessions : ℕ) (at : Listening) (answer : Answer)
-        → ReceivesFrom window workers packets sessions at answer (wire_of told wire_faults n_old n_left)
+    pub datagrams_back : (fill : Bool) (window workers packets sessions : ℕ) (at : Listening) (answer : Answer)
+        → ReceivesFrom fill window workers packets sessions at answer (wire_of told wire_faults n_old n_left)
         (output_of held faults o_first o_left) (changed asked p_old p_left)
         → o_first ≡ o_old → o_end ≡ o_left → p_end ≡ p_left → n_end ≡ n_left
-        → ReceivesFrom window workers packets sessions at answer (wire_of told wire_faults n_old n_end)
+        → ReceivesFrom fill window workers packets sessions at answer (wire_of told wire_faults n_old n_end)
         (output_of held faults o_old o_end) (changed asked p_old p_end)
-    datagrams_back window workers packets sessions at answer took first o_is p_is n_is =
+    datagrams_back fill window workers packets sessions at answer took first o_is p_is n_is =
         rw (← first, o_is, p_is, n_is) took
 
 -- all of a wire's datagrams were
-pub took_datagrams : (window workers packets sessions : ℕ) (at : Listening) (told listens after : WireTold)
+pub took_datagrams : (fill : Bool) (window workers packets sessions : ℕ) (at : Listening) (told listens after : WireTold)
     (i j k : ℕ) (before : Option Told) (x mid y : PlayoutState) (heard : Result (Unit {0}) Ending)
-    (answer : Answer) → HasHeard AsFrames x.receiver window []
+    (answer : Answer) → HasHeard (frames_form fill) x.receiver window []
     → Grows before x.asked (starting workers (Ok tt))
     → listens ≡ begun_at at told → i ≤ j
     → HearsWire packets sessions (told_between listens after j k) x mid heard
     → Concludes mid y heard answer
-    → ReceivesFrom window workers packets sessions at answer (told_between told after i k)
+    → ReceivesFrom fill window workers packets sessions at answer (told_between told after i k)
     (output x y) (hands before y)
-took_datagrams window workers packets sessions at told listens after i j k before x mid y heard answer new
+took_datagrams fill window workers packets sessions at told listens after i j k before x mid y heard answer new
     grew is later h c =
     let wire = told_between listens after j k in
     let came = came_to y new heard
@@ -344,12 +345,12 @@ took_datagrams window workers packets sessions at told listens after i j k befor
     record {
       heard = h.datagrams;
       few = h.few;
-      ended = recv_ended AsFrames window workers before x y h.datagrams heard new grew packets sessions
+      ended = recv_ended (frames_form fill) window workers before x y h.datagrams heard new grew packets sessions
           at told listens after i j k is later h refl new answer came;
-      wire_failed = wire_did AsFrames window workers before x y h.datagrams heard new grew packets
+      wire_failed = wire_did (frames_form fill) window workers before x y h.datagrams heard new grew packets
           sessions at told listens after i j k is later h refl answer came;
-      output_failed = output_did AsFrames window workers before x y h.datagrams heard new grew answer came;
-      workers_started = workers_did AsFrames window workers before x y h.datagrams heard new grew
+      output_failed = output_did (frames_form fill) window workers before x y h.datagrams heard new grew answer came;
+      workers_started = workers_did (frames_form fill) window workers before x y h.datagrams heard new grew
           answer came;
     }
 
@@ -370,11 +371,11 @@ not_started form window workers packets source input output hands input_stays ou
 }
 
 -- there was no memory
-pub not_begun : (window workers packets sessions : ℕ) (at : Listening) (wire : WireChange)
+pub not_begun : (fill : Bool) (window workers packets sessions : ℕ) (at : Listening) (wire : WireChange)
     (output : OutputChange) (hands : Change (Option Told)) → Stays wire.told → Stays output.held
     → HasStarted workers hands ⊎ Stays hands
-    → ReceivesFrom window workers packets sessions at (Stopped NoMemory) wire output hands
-not_begun window workers packets sessions at wire output hands wire_stays output_stays at_most = record {
+    → ReceivesFrom fill window workers packets sessions at (Stopped NoMemory) wire output hands
+not_begun fill window workers packets sessions at wire output hands wire_stays output_stays at_most = record {
   heard = [];
   few = omega arith;
   ended = (inr (refl, wire_stays), rw output_stays (GrewBySome-none output.held.before _));
@@ -383,29 +384,30 @@ not_begun window workers packets sessions at wire output hands wire_stays output
   workers_started = at_most;
 }
 
-nothing_written : (window : ℕ) → full_output window [] ≡ []
-unfolding full_output all_output
-nothing_written window = refl
+nothing_written : (fill : Bool) (window : ℕ) → due_in_all (frames_form fill) window [] ≡ []
+unfolding full_output all_output filled_output all_filled
+nothing_written false window = refl
+nothing_written true window = refl
 
 nothing_counted : (window : ℕ) → no_counts ≡ tally_of window []
 unfolding tally_of with_sessions outcomes_behind
 nothing_counted window = refl
 
 -- the wire didn't come to listen
-pub not_listening : (window workers packets sessions : ℕ) (at : Listening) (wire : WireChange)
+pub not_listening : (fill : Bool) (window workers packets sessions : ℕ) (at : Listening) (wire : WireChange)
     (output : OutputChange) (before after : Option Told) (tally : Tally) → Stays wire.told
     → Stays output.held → tally ≡ no_counts → HasRisen wire.faults
     → Grows before after (starting workers (Ok tt))
-    → ReceivesFrom window workers packets sessions at (Drained (Judged tally) WireFailed) wire output
+    → ReceivesFrom fill window workers packets sessions at (Drained (Judged tally) WireFailed) wire output
     (record { before = before; after = after })
-not_listening window workers packets sessions at wire output before after tally wire_stays output_stays none
+not_listening fill window workers packets sessions at wire output before after tally wire_stays output_stays none
     rose grew = record {
       heard = [];
       few = omega arith;
       ended = (
         inr (refl, wire_stays),
         record {
-          wrote = rw (nothing_written window, output_stays) (Grew-none output.held.before);
+          wrote = rw (nothing_written fill window, output_stays) (Grew-none output.held.before);
           tally_is = none ∙ nothing_counted window;
         },
       );

@@ -1,5 +1,5 @@
 -- Where no fault came, a whole input is decoded to its end, or unpacked, unless memory runs out.
-use Rattle.std.proofs.Common.{◌≡◌, ℕ, Option, None, Some, IsSomeAnd, refl, sym, ap, ◌∙◌}
+use Rattle.std.proofs.Common.{◌≡◌, ℕ, Bool, Option, None, Some, IsSomeAnd, refl, sym, ap, ◌∙◌}
 use Rattle.link_receiver.specs.HeardLists.{OutputForm}
 use Rattle.link_report.specs.declared.answer.Answer.{Answer}
 use Rattle.link_report.specs.declared.answer.Answer.TheVariants.{Done, Stopped, Drained, WithRecords}
@@ -63,9 +63,9 @@ module _ (window workers packets : ℕ) (form : InputForm) (input : InputChange)
   completes (WithRecords summary records other (Some end)) d =
       no_end (WithRecords summary records other (Some end)) end refl d d.ended
 
-  pub decode_completes : (answer : Answer)
-      → Decodes window workers packets form answer input output hands → IsComplete answer
-  decode_completes answer d = completes answer d
+  pub decode_completes : (fill : Bool) (answer : Answer)
+      → Decodes fill window workers packets form answer input output hands → IsComplete answer
+  decode_completes fill answer d = completes answer d
 
   pub unpack_completes : (answer : Answer)
       → Unpacks window workers packets form answer input output hands → IsComplete answer

@@ -1,9 +1,9 @@
 -- What decoding a capture or a pcap file, or unpacking it, did, by how it ended.
-use Rattle.std.specs.Prelude.{◌≡◌, ◌⊎◌, ℕ, List, [], ◌∷◌, Option, None, Some}
+use Rattle.std.specs.Prelude.{◌≡◌, ◌⊎◌, ℕ, Bool, List, [], ◌∷◌, Option, None, Some}
 use Rattle.link_model.specs.Judgement.{tally_of}
 use Rattle.link_model.specs.Session.{sessions_of}
 use Rattle.link_model.specs.declared.tally.Tally.{Tally}
-use Rattle.link_receiver.specs.HeardLists.{OutputForm, AsFrames, AsUnits, due_in_all, told_jobs}
+use Rattle.link_receiver.specs.HeardLists.{OutputForm, AsUnits, frames_form, due_in_all, told_jobs}
 use Rattle.link_receiver.specs.StartedWorkers.{HasStarted}
 use Rattle.receiver_model.specs.Offered.{AreAllOffered}
 use Rattle.link_report.specs.declared.answer.Answer.{Answer}
@@ -88,11 +88,11 @@ pub record TakesInput
   pub output_failed : answer ≡ Stopped OutputFailed → HasRisen output.faults
   pub workers_started : StartsWorkers window workers answer hands (datagrams_in form packets given)
 
--- as raw frames
-abbrev pub Decodes : (window workers packets : ℕ) → InputForm → Answer → InputChange → OutputChange
-    → Change (Option Told) → Type 0
-Decodes window workers packets form answer input output hands =
-    TakesInput AsFrames window workers packets form answer input output hands
+-- as raw frames, without gaps where these are filled
+abbrev pub Decodes : (fill : Bool) (window workers packets : ℕ) → InputForm → Answer → InputChange
+    → OutputChange → Change (Option Told) → Type 0
+Decodes fill window workers packets form answer input output hands =
+    TakesInput (frames_form fill) window workers packets form answer input output hands
 
 -- as the elementary stream of the first session
 abbrev pub Unpacks : (window workers packets : ℕ) → InputForm → Answer → InputChange → OutputChange

@@ -47,7 +47,7 @@ pub record SentSome
 abbrev pub LoopWrote : ℕ → (sending answer : Result Summary Ending) → OutputChange → List (List ℕ)
     → Type 0
 LoopWrote window sending (Ok (Looped frames datagrams bytes tally)) output heard =
-    (sending ≡ Ok (Sent frames datagrams bytes)) × IsJudged window tally output heard
+    (sending ≡ Ok (Sent frames datagrams bytes)) × IsJudged AsFrames window tally output heard
 LoopWrote window sending (Err OutputFailed) output heard =
     WrotePart output (full_output window heard)
 LoopWrote window sending (Err NoMemory) output heard = WrotePart output (full_output window heard)

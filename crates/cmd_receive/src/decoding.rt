@@ -5,6 +5,7 @@ ghost use Rattle.cmd_receive.specs.Decoding.{TakesInput, Decodes, Unpacks};
 ghost use Rattle.cmd_receive.specs.Playouts.{IsNew, IsWell, PlaysInput, playout_state};
 
 use crate::concluding::{conclude, with_record_counts};
+use crate::frame_receiver::frame_receiver;
 use crate::playout::Playout;
 use crate::settings::DecodeSettings;
 use cmd_send::Host;
@@ -17,12 +18,14 @@ use vc_ports::{Sink, Source};
 use vc_slice::{Hands, Places};
 
 /// Decodes a capture, or a pcap file: reads at most `settings.packets` entries, or records, takes their
-/// datagrams with up to `settings.window` pictures open (2 to 8), and writes the raw frames that they make. A
-/// frame is written as soon as its pictures are released. Each slice that a picture keeps is offered to
-/// `settings.workers` workers; those that they don't decode in time are decoded here. With workers, each
-/// picture is also transformed in four parts side by side. If the input fails, ends within an entry or a
-/// record, or has a byte more than these entries, or if a pcap file has no head or a record that is too long,
-/// the frames of the datagrams received so far are still written.
+/// datagrams with up to `settings.window` pictures open (2 to 8), and writes the raw frames that they make.
+/// With `settings.fill`, where at most 250 frames in a row of a session are missing between two that are
+/// written, the first of the two is written once more for each of them. A frame is written as soon as its
+/// pictures are released. Each slice that a picture keeps is offered to `settings.workers` workers; those
+/// that they don't decode in time are decoded here. With workers, each picture is also transformed in four
+/// parts side by side. If the input fails, ends within an entry or a record, or has a byte more than these
+/// entries, or if a pcap file has no head or a record that is too long, the frames of the datagrams received
+/// so far are still written.
 pub fn decode<H: Threads + Copy, S: Source, O: Sink, P: Hands>(
     host: Host<H>,
     settings: &DecodeSettings,
@@ -33,14 +36,13 @@ pub fn decode<H: Threads + Copy, S: Source, O: Sink, P: Hands>(
     requires least { 2 ≤ settings.now.window }
     requires most { settings.now.window ≤ 8 }
     requires free { P.is_free hands.old }
-    ensures { Decodes settings.now.window settings.now.workers settings.now.packets settings.now.form
-        result
+    ensures { Decodes settings.now.fill settings.now.window settings.now.workers settings.now.packets
+        settings.now.form result
         (input_of S.left S.faults input.old input.new)
         (output_of O.held O.faults output.old output.new)
         (changed P.Places.told hands.old hands.new) }
 {
-    let threads = threads_beside(host.rt, settings.workers);
-    let mut receiver = Receiver::new(host.alloc, threads, settings.window);
+    let mut receiver = frame_receiver(&host, settings.fill, settings.window, settings.workers);
     take_input(host, settings, &mut receiver, input, output, hands)
 }
 

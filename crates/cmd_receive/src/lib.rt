@@ -5,6 +5,7 @@
 mod concluding;
 mod count;
 mod decoding;
+mod frame_receiver;
 mod looping;
 mod options;
 mod outlet;

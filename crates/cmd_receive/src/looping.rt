@@ -62,11 +62,7 @@ fn loop_by<H: Threads + Copy + Send + Sync, S: Source, O: Sink, N: Wire, P: Hand
     wire: &mut N,
     hands: &mut P,
 ) -> Result<Summary, Ending>
-    requires new { receiver.old ≡ record {
-      reception = new_reception options.now.window;
-      stream = None;
-      has_failed = false;
-    } }
+    requires new { receiver.old.reception ≡ new_reception options.now.window }
     requires heard { HasHeard AsFrames receiver.old options.now.window [] }
     requires free { P.is_free hands.old }
     ensures { LoopsBack (sending_view options.now.sent.sender) options.now.sent.frames options.now.window

@@ -9,6 +9,8 @@ pub struct ReceiveOptions<'a> {
     pub workers: u32,
     /// How many datagrams are received at most.
     pub packets: u32,
+    /// Whether gaps between frames are filled.
+    pub fill: bool,
     /// How many sessions are to end.
     pub sessions: u32,
     /// For how many seconds a wire that tells nothing may bring the session nothing new before it ends; with

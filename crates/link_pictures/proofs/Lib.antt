@@ -3,6 +3,7 @@ pub mod Frames
 mod SeenSlots
 mod RunAnswers
 mod RunLists
+mod MadeFrames
 mod PictureLists
 mod CompletedSlices
 mod ReleasedPictures

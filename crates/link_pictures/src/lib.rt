@@ -5,6 +5,8 @@
 mod answers;
 mod completing;
 mod fault;
+mod filled;
+mod frame_bytes;
 mod header;
 mod laws;
 mod output;
@@ -12,10 +14,13 @@ mod pairing;
 mod picture;
 mod stream;
 mod units;
+mod written;
 
 pub use answers::Answers;
 pub use fault::StreamFault;
+pub use filled::FilledFrames;
 pub use frame_writer::FrameFault;
 pub use laws::written_streams_follow_datagrams;
 pub use output::{FrameOutput, Shown};
 pub use stream::{ReleasedPicture, StreamOutput};
+pub use written::Written;

@@ -3,6 +3,7 @@ use Rattle.std.proofs.Common.{◌≡◌, ℕ, zero, suc, Bool, true, List, [], �
 use Rattle.std.specs.Prelude.{map, is_some, is_none}
 use Rattle.std.specs.Option.{option_map}
 use Rattle.machine_model.specs.Places.{Job}
+use Rattle.fill_model.specs.ReleasedFrames.{datagram_filled, datagram_frames, end_filled, last_behind}
 use Rattle.link_model.specs.Session.{Session}
 use Rattle.link_model.specs.Windows.{Releasable}
 use Rattle.link_model.specs.declared.outcome.Outcome.{Outcome}
@@ -25,9 +26,10 @@ use Rattle.link_receiver.specs.States.{IsRunning, WaitsForSecond, IsReceiving}
 use Rattle.link_slices.proofs.Growing.{grows_twice}
 use Rattle.link_slices.specs.Calls.{PlaceCall, told_of, exchanges_of, freeing}
 use Rattle.link_slices.specs.Jobs.{job_of}
-use Rattle.link_pictures.specs.Outputs.{all_released_output, stream_behind_all, datagram_output, stream_behind_datagram, end_output, stream_end}
+use Rattle.link_pictures.specs.Outputs.{all_released_output, written_behind_all, written_behind_opening, datagram_output, written_behind_datagram, end_output, written_at_end}
 use Rattle.link_pictures.specs.Receiving.{stream_takes, datagram_units, opens_stream_for, stream_takes_end, end_units}
-use Rattle.link_pictures.specs.Writing.{WrittenStream}
+use Rattle.link_pictures.specs.declared.written.Written.{Written}
+use Rattle.link_pictures.specs.declared.written.Written.TheVariants.{Frames, Filled, Units}
 use Rattle.vc_ports.proofs.Growing.{Grew-then, GrewBySome-all, GrewBySome-none, GrewBySome-then, GrewBySome-front}
 use Rattle.vc_ports.specs.Writing.{Grew, GrewBySome}
 use Rattle.vc_slice.specs.Asked.{Told, told_more, Grows}
@@ -95,36 +97,41 @@ unfolding releases_up_to
 releases_open zero r = opens_same r
 releases_open (suc k) r = grind (arith, opens_same, opens_then, one_release, releases_open k)
 
--- ---- what goes out, and the stream
+-- ---- what goes out, and what is kept of it
 
-datagram_output_is : (stream : Option WrittenStream) (r : Reception) (d : List ℕ)
-    (es : List Exchange) → all_released_output stream (before_releases r d es)
-    ≡ datagram_output stream r d es
-unfolding datagram_bytes datagram_units
-datagram_output_is None r d es = refl
-datagram_output_is (Some w) r d es = refl
+datagram_output_is : (written : Written) (r : Reception) (d : List ℕ)
+    (es : List Exchange) → all_released_output written (before_releases r d es)
+    ≡ datagram_output written r d es
+unfolding datagram_bytes datagram_filled datagram_frames datagram_units
+datagram_output_is Frames r d es = refl
+datagram_output_is (Filled last) r d es = refl
+datagram_output_is (Units w) r d es = refl
 
-stream_behind_is : (stream : Option WrittenStream) (r : Reception) (d : List ℕ)
+written_behind_is : (written : Written) (r : Reception) (d : List ℕ)
     (es : List Exchange)
-    → option_map (opens_stream_for (session_opened r d) (is_none r.standing) d)
-    (stream_behind_all stream (before_releases r d es)) ≡ stream_behind_datagram stream r d es
-unfolding stream_takes
-stream_behind_is None r d es = refl
-stream_behind_is (Some w) r d es = refl
+    → written_behind_opening (session_opened r d) (is_none r.standing) d
+    (written_behind_all written (before_releases r d es)) ≡ written_behind_datagram written r d es
+unfolding stream_takes last_behind datagram_frames
+written_behind_is Frames r d es = refl
+written_behind_is (Filled last) r d es = refl
+written_behind_is (Units w) r d es = refl
 
-end_output_is : (stream : Option WrittenStream) (r : Reception) (es : List Exchange)
+end_output_is : (written : Written) (r : Reception) (es : List Exchange)
     → (let last = all_exchanged (ends_input r) es in
-    all_released_output stream last ++ stream_end (stream_behind_all stream last))
-    ≡ end_output stream r es
-unfolding end_bytes end_units stream_takes_end
-end_output_is None r es = append-nil (all_released_output None (all_exchanged (ends_input r) es))
-end_output_is (Some w) r es = refl
+    all_released_output written last ++ written_at_end (written_behind_all written last))
+    ≡ end_output written r es
+unfolding end_bytes end_filled end_units stream_takes_end
+end_output_is Frames r es =
+    append-nil (all_released_output Frames (all_exchanged (ends_input r) es))
+end_output_is (Filled last) r es =
+    append-nil (all_released_output (Filled last) (all_exchanged (ends_input r) es))
+end_output_is (Units w) r es = refl
 
 -- before anything went out
-pub fails_early : (stream : Option WrittenStream) (r : Reception) (d : List ℕ)
+pub fails_early : (written : Written) (r : Reception) (d : List ℕ)
     (held : Option (List ℕ)) → (es : List Exchange) × AreDecodings (dones_in es)
-    × GrewBySome held held (datagram_output stream r d es)
-fails_early stream r d held = ([], tt, GrewBySome-none held (datagram_output stream r d []))
+    × GrewBySome held held (datagram_output written r d es)
+fails_early written r d held = ([], tt, GrewBySome-none held (datagram_output written r d []))
 
 -- ---- up to the releases, and behind them
 
@@ -149,19 +156,19 @@ module _ {a b : Option Told} (old : Reception) {kept exchanged : Reception} (d :
   has_ended_exchanged = same.has_ended ∙ ap (λ (r : Reception). r.has_ended) k
       ∙ kept-has_ended old d
 
-  output_exchanged : (stream : Option WrittenStream) → all_released_output stream exchanged
-      ≡ datagram_output stream old d (exchanges_of x.0)
-  output_exchanged stream = ap (all_released_output stream) value
-      ∙ datagram_output_is stream old d (exchanges_of x.0)
+  output_exchanged : (written : Written) → all_released_output written exchanged
+      ≡ datagram_output written old d (exchanges_of x.0)
+  output_exchanged written = ap (all_released_output written) value
+      ∙ datagram_output_is written old d (exchanges_of x.0)
 
-  pub fails_in : (stream : Option WrittenStream) (before behind : Option (List ℕ))
-      → GrewBySome before behind (all_released_output stream exchanged)
+  pub fails_in : (written : Written) (before behind : Option (List ℕ))
+      → GrewBySome before behind (all_released_output written exchanged)
       → (es : List Exchange) × AreDecodings (dones_in es)
-      × GrewBySome before behind (datagram_output stream old d es)
-  fails_in stream before behind some = grind (arith, output_exchanged)
+      × GrewBySome before behind (datagram_output written old d es)
+  fails_in written before behind some = grind (arith, output_exchanged)
 
   module _ {c : Option Told} {before behind : Option (List ℕ)}
-      {first mid : Option WrittenStream} {released : Reception}
+      {first mid : Written} {released : Reception}
       (all : AreReleased b c before behind first mid exchanged released) where
     pub fails_released : (es : List Exchange) × AreDecodings (dones_in es)
         × GrewBySome before behind (datagram_output first old d es)
@@ -202,11 +209,11 @@ module _ {a b : Option Told} (old : Reception) {kept exchanged : Reception} (d :
         subst IsReceiving (sym n) (opens old_goes waits o running)
 
     module _ {outcome : Outcome} {o : Option Session} {new : Reception}
-        {last : Option WrittenStream} {is_first : Bool} {datagram : List ℕ}
+        {last : Written} {is_first : Bool} {datagram : List ℕ}
         (same_first : is_first ≡ is_none old.standing) (same_datagram : datagram ≡ d)
         (j : map job_of jobs ≡ datagram_jobs old d) (out : outcome ≡ judged old d)
         (opening : o ≡ session_opened old d) (n : new ≡ opens_session o released)
-        (t : last ≡ option_map (opens_stream_for o is_first datagram) mid) where
+        (t : last ≡ written_behind_opening o is_first datagram mid) where
       new_value : new ≡ takes_datagram old d (exchanges_of x.0)
       unfolding takes_datagram
       new_value = n ∙ ap (λ (s : Option Session). opens_session s released) opening
@@ -215,8 +222,8 @@ module _ {a b : Option Told} (old : Reception) {kept exchanged : Reception} (d :
       new_written : Grew before behind (datagram_output first old d (exchanges_of x.0))
       new_written = subst (Grew before behind) (output_exchanged first) all.written
 
-      new_stream : last ≡ stream_behind_datagram first old d (exchanges_of x.0)
-      new_stream = grind (arith, value, stream_behind_is)
+      new_written_kept : last ≡ written_behind_datagram first old d (exchanges_of x.0)
+      new_written_kept = grind (arith, value, written_behind_is)
 
       asked_for : is_some (next_picture (keeps_datagram old d)) ≡ true
           → are_asked old.out (exchanges_of x.0) ≡ true
@@ -227,8 +234,8 @@ module _ {a b : Option Told} (old : Reception) {kept exchanged : Reception} (d :
         told_behind = c;
         held_before = before;
         held_behind = behind;
-        stream_before = first;
-        stream_behind = last;
+        written_before = first;
+        written_behind = last;
       }) old new d outcome calls
       enters = (
         x.0,
@@ -238,7 +245,7 @@ module _ {a b : Option Told} (old : Reception) {kept exchanged : Reception} (d :
               (grows_twice a b c (told_of x.0) (freeing (all_freed_places exchanged)) x.1.told
               all.told);
           value = new_value;
-          stream = new_stream;
+          kept = new_written_kept;
           written = new_written;
           judgement = out;
           decodings = x.1.decodings;
@@ -268,36 +275,36 @@ module _ {a b : Option Told} (old : Reception) {ended exchanged : Reception}
   value_at_end : exchanged ≡ all_exchanged (ends_input old) (exchanges_of x.0)
   value_at_end = x.1.value ∙ ap (λ (r : Reception). all_exchanged r (exchanges_of x.0)) k
 
-  output_at_end : (stream : Option WrittenStream)
-      → all_released_output stream exchanged ++ stream_end (stream_behind_all stream exchanged)
-      ≡ end_output stream old (exchanges_of x.0)
-  output_at_end stream = grind (arith, value_at_end, end_output_is)
+  output_at_end : (written : Written)
+      → all_released_output written exchanged ++ written_at_end (written_behind_all written exchanged)
+      ≡ end_output written old (exchanges_of x.0)
+  output_at_end written = grind (arith, value_at_end, end_output_is)
 
-  abbrev FailsAtEnd : (stream : Option WrittenStream) (before behind : Option (List ℕ)) → Type 0
-  FailsAtEnd stream before behind = (es : List Exchange) × AreDecodings (dones_in es)
-      × GrewBySome before behind (end_output stream old es)
+  abbrev FailsAtEnd : (written : Written) (before behind : Option (List ℕ)) → Type 0
+  FailsAtEnd written before behind = (es : List Exchange) × AreDecodings (dones_in es)
+      × GrewBySome before behind (end_output written old es)
 
-  some_at_end : (stream : Option WrittenStream) (before behind : Option (List ℕ))
+  some_at_end : (written : Written) (before behind : Option (List ℕ))
       → GrewBySome before behind
-      (all_released_output stream exchanged ++ stream_end (stream_behind_all stream exchanged))
-      → FailsAtEnd stream before behind
-  some_at_end stream before behind some = grind (arith, output_at_end)
+      (all_released_output written exchanged ++ written_at_end (written_behind_all written exchanged))
+      → FailsAtEnd written before behind
+  some_at_end written before behind some = grind (arith, output_at_end)
 
   -- in the releases, or behind them
-  pub fails_at_end : (stream : Option WrittenStream) (before behind : Option (List ℕ))
-      → GrewBySome before behind (all_released_output stream exchanged)
-      → FailsAtEnd stream before behind
-  fails_at_end stream before behind some = grind (arith, some_at_end, GrewBySome-front)
+  pub fails_at_end : (written : Written) (before behind : Option (List ℕ))
+      → GrewBySome before behind (all_released_output written exchanged)
+      → FailsAtEnd written before behind
+  fails_at_end written before behind some = grind (arith, some_at_end, GrewBySome-front)
 
   module _ {c : Option Told} {before middle : Option (List ℕ)}
-      {first last : Option WrittenStream} {released : Reception}
+      {first last : Written} {released : Reception}
       (all : AreReleased b c before middle first last exchanged released) where
     pub fails_released_at_end : FailsAtEnd first before middle
     fails_released_at_end = fails_at_end first before middle
         (GrewBySome-all before middle (all_released_output first exchanged) all.written)
 
-    -- at the end of the stream
-    pub fails_last : (behind : Option (List ℕ)) → GrewBySome middle behind (stream_end last)
+    -- at the very end
+    pub fails_last : (behind : Option (List ℕ)) → GrewBySome middle behind (written_at_end last)
         → FailsAtEnd first before behind
     fails_last behind some = grind (arith, some_at_end, GrewBySome-then)
 
@@ -309,12 +316,12 @@ module _ {a b : Option Told} (old : Reception) {ended exchanged : Reception}
       unfolding takes_end
       new_end = n ∙ ap gives_up_field (all.value ∙ ap releases_all value_at_end)
 
-      module _ (behind : Option (List ℕ)) (ends : Grew middle behind (stream_end last)) where
-        written_at_end : Grew before behind (end_output first old (exchanges_of x.0))
-        written_at_end = subst (Grew before behind) (output_at_end first)
+      module _ (behind : Option (List ℕ)) (ends : Grew middle behind (written_at_end last)) where
+        output_written : Grew before behind (end_output first old (exchanges_of x.0))
+        output_written = subst (Grew before behind) (output_at_end first)
             (Grew-then before middle behind (all_released_output first exchanged)
-            (stream_end (stream_behind_all first exchanged)) all.written
-            (subst (λ (o : Option WrittenStream). Grew middle behind (stream_end o)) all.stream
+            (written_at_end (written_behind_all first exchanged)) all.written
+            (subst (λ (o : Written). Grew middle behind (written_at_end o)) all.kept
             ends))
 
         pub drains : (calls : List PlaceCall) × IsDrained (record {
@@ -322,8 +329,8 @@ module _ {a b : Option Told} (old : Reception) {ended exchanged : Reception}
           told_behind = c;
           held_before = before;
           held_behind = behind;
-          stream_before = first;
-          stream_behind = last;
+          written_before = first;
+          written_behind = last;
         }) old new calls
         drains = (
           x.0,
@@ -333,7 +340,7 @@ module _ {a b : Option Told} (old : Reception) {ended exchanged : Reception}
                 (grows_twice a b c (told_of x.0) (freeing (all_freed_places exchanged)) x.1.told
                 all.told);
             value = new_end;
-            written = written_at_end;
+            written = output_written;
             decodings = x.1.decodings;
             offered = x.2;
             asked = λ some. subst (λ (r : List RunOut). are_asked r (exchanges_of x.0) ≡ true)

@@ -21,8 +21,9 @@ use Rattle.link_receiver.specs.HeardLists.{OutputForm, HasHeard, OfferedToPlaces
 use Rattle.link_receiver.specs.HeardLists.{IsNewSlice, OfferedNewSlices}
 use Rattle.link_receiver.specs.States.{ReceiverState}
 use Rattle.link_slices.specs.Calls.{PlaceCall, exchanges_of}
-use Rattle.link_pictures.specs.Outputs.{datagram_output, stream_behind_datagram, end_output}
-use Rattle.link_pictures.specs.Writing.{WrittenStream}
+use Rattle.link_pictures.specs.Outputs.{datagram_output, written_behind_datagram, end_output}
+use Rattle.link_pictures.specs.declared.written.Written.{Written}
+use Rattle.link_pictures.specs.declared.written.Written.TheVariants.{Frames, Filled, Units}
 use Rattle.vc_ports.specs.Writing.{Grew, GrewBySome}
 
 some_open : {size : ℕ} → 2 ≤ size → 1 ≤ size
@@ -51,9 +52,9 @@ module _ {inside old : ReceiverState} (is : inside ≡ old) where
       pub enter_judged : outcome ≡ outcome_behind size datagrams d
       enter_judged = e.judgement ∙ heard_outcome form inside size datagrams heard d
 
-      pub enter_heard : outside.stream_before ≡ inside.stream → HasHeard form (record {
+      pub enter_heard : outside.written_before ≡ inside.written → HasHeard form (record {
         reception = new;
-        stream = outside.stream_behind;
+        written = outside.written_behind;
         has_failed = inside.has_failed;
       }) size (datagrams ++ d ∷ [])
       enter_heard first =
@@ -72,8 +73,8 @@ module _ {inside old : ReceiverState} (is : inside ≡ old) where
                 (datagrams ++ d ∷ [])) r.out)
                 (sym e.value) then.out;
             writes = writes_same form _ _ size (datagrams ++ d ∷ []) e.value
-                (e.stream ∙ ap (λ (o : Option WrittenStream).
-                stream_behind_datagram o inside.reception d (exchanges_of calls)) first)
+                (e.kept ∙ ap (λ (o : Written).
+                written_behind_datagram o inside.reception d (exchanges_of calls)) first)
                 then.writes;
           }
 
@@ -102,7 +103,7 @@ module _ {inside old : ReceiverState} (is : inside ≡ old) where
             (datagram_jobs inside.reception d) e.offered job there);
       })
 
-      pub enter_wrote : outside.stream_before ≡ inside.stream
+      pub enter_wrote : outside.written_before ≡ inside.written
           → Grew outside.held_before outside.held_behind (newly_due form size datagrams d)
       enter_wrote first = grind (arith, heard_writes)
 
@@ -110,7 +111,7 @@ module _ {inside old : ReceiverState} (is : inside ≡ old) where
       (e : IsDrained outside inside.reception new calls)
       {form : OutputForm} {size : ℕ} {datagrams : List (List ℕ)}
       (h : HasHeard form old size datagrams) where
-    pub drain_wrote : outside.stream_before ≡ inside.stream
+    pub drain_wrote : outside.written_before ≡ inside.written
         → Grew outside.held_before outside.held_behind (still_due form size datagrams)
     drain_wrote first = grind (arith, end_writes)
 
@@ -124,11 +125,11 @@ module _ {inside old : ReceiverState} (is : inside ≡ old) where
       {datagrams : List (List ℕ)} (h : HasHeard form old size datagrams) where
     pub enter_part : (d : List ℕ)
         → (exchanges : List Exchange) × AreDecodings (dones_in exchanges)
-        × GrewBySome before behind (datagram_output inside.stream inside.reception d exchanges)
+        × GrewBySome before behind (datagram_output inside.written inside.reception d exchanges)
         → GrewBySome before behind (newly_due form size datagrams d)
     enter_part d e = rw (heard_writes form inside size datagrams (rw is h) e.0 e.1 d) at e.2
 
     pub drain_part : (exchanges : List Exchange) × AreDecodings (dones_in exchanges)
-        × GrewBySome before behind (end_output inside.stream inside.reception exchanges)
+        × GrewBySome before behind (end_output inside.written inside.reception exchanges)
         → GrewBySome before behind (still_due form size datagrams)
     drain_part e = rw (end_writes form inside size datagrams (rw is h) e.0 e.1) at e.2

@@ -1,5 +1,9 @@
 -- The releases of a call, one after another.
 use Rattle.std.proofs.Common.{◌≡◌, ℕ, zero, suc, List, [], ◌++◌, Option, Some, None, refl, ap, sym, ◌∙◌, subst, append_assoc, append-nil, arith}
+use Rattle.fill_model.proofs.Frames.{filled-append, filled-none, last-append, last-none}
+use Rattle.fill_model.proofs.Runs.{no_frames, frames_on, frames_stop}
+use Rattle.fill_model.specs.Filled.{filled_behind, last_frame}
+use Rattle.fill_model.specs.ReleasedFrames.{released_frames, frames_up_to}
 use Rattle.link_model.specs.Windows.{Releasable}
 use Rattle.receiver_model.proofs.ReleaseSteps.{none_released}
 use Rattle.receiver_model.specs.Receptions.{Reception}
@@ -11,19 +15,20 @@ use Rattle.vc_ports.specs.Writing.{Grew, GrewBySome}
 use Rattle.vc_slice.specs.Asked.{Told, Grows}
 use Rattle.link_receiver.specs.Freeing.{freed_up_to}
 use Rattle.link_receiver.specs.Released.{AreReleased}
-use Rattle.link_pictures.specs.Outputs.{released_output, stream_behind_picture, output_up_to, stream_behind_up_to}
+use Rattle.link_pictures.specs.Outputs.{released_output, written_behind_picture, output_up_to, written_behind_up_to}
 use Rattle.link_pictures.specs.Receiving.{streams_up_to, streamed_up_to}
-use Rattle.link_pictures.specs.Writing.{WrittenStream}
+use Rattle.link_pictures.specs.declared.written.Written.{Written}
+use Rattle.link_pictures.specs.declared.written.Written.TheVariants.{Frames, Filled, Units}
 
 -- so many releases are left of a call, of which some were made
 pub record IsReleasing (n left : ℕ) (first now : Reception)
-    (stream_first stream : Option WrittenStream) (held_first held : Option (List ℕ))
+    (written_first written : Written) (held_first held : Option (List ℕ))
     (told_first told : Option Told) : Type 0 where
   pub value : releases_up_to left now ≡ releases_up_to n first
-  pub streams : stream_behind_up_to stream left now ≡ stream_behind_up_to stream_first n first
+  pub kept : written_behind_up_to written left now ≡ written_behind_up_to written_first n first
   pub bytes : List ℕ
   pub grew : Grew held_first held bytes
-  pub others : bytes ++ output_up_to stream left now ≡ output_up_to stream_first n first
+  pub others : bytes ++ output_up_to written left now ≡ output_up_to written_first n first
   pub freed : List ℕ
   pub grows : Grows told_first told (freeing freed)
   pub places : freed ++ freed_up_to left now ≡ freed_up_to n first
@@ -34,19 +39,27 @@ module _ (now : Reception) (picture : Releasable) (next : next_picture now ≡ S
   unfolding releases_up_to
   next_value = rw next refl
 
-  next_bytes : (stream : Option WrittenStream) → output_up_to stream (suc k) now
-      ≡ released_output stream now picture
-      ++ output_up_to (stream_behind_picture stream now picture) k (releases_picture_of now picture)
+  next_bytes : (written : Written) → output_up_to written (suc k) now
+      ≡ released_output written now picture
+      ++ output_up_to (written_behind_picture written now picture) k (releases_picture_of now picture)
   unfolding bytes_up_to streamed_up_to
-  next_bytes None = rw next refl
-  next_bytes (Some w) = rw next refl
+  next_bytes Frames = rw next refl
+  next_bytes (Filled last) =
+      ap (filled_behind last) (frames_on k now picture next)
+      ∙ filled-append last (released_frames now picture)
+      (frames_up_to k (releases_picture_of now picture))
+  next_bytes (Units w) = rw next refl
 
-  next_stream : (stream : Option WrittenStream) → stream_behind_up_to stream (suc k) now
-      ≡ stream_behind_up_to (stream_behind_picture stream now picture) k
+  next_written : (written : Written) → written_behind_up_to written (suc k) now
+      ≡ written_behind_up_to (written_behind_picture written now picture) k
       (releases_picture_of now picture)
   unfolding streams_up_to
-  next_stream None = refl
-  next_stream (Some w) = rw next refl
+  next_written Frames = refl
+  next_written (Filled last) = ap Filled
+      (ap (last_frame last) (frames_on k now picture next)
+      ∙ last-append last (released_frames now picture)
+      (frames_up_to k (releases_picture_of now picture)))
+  next_written (Units w) = rw next refl
 
   next_freed : freed_up_to (suc k) now
       ≡ freed_places now picture.number ++ freed_up_to k (releases_picture_of now picture)
@@ -59,45 +72,52 @@ module _ (now : Reception) (none : next_picture now ≡ None) where
   none_value zero = refl
   none_value (suc k) = rw none refl
 
-  none_bytes : (stream : Option WrittenStream) (k : ℕ) → output_up_to stream k now ≡ []
+  none_bytes : (written : Written) (k : ℕ) → output_up_to written k now ≡ []
   unfolding bytes_up_to streamed_up_to
-  none_bytes None zero = refl
-  none_bytes None (suc k) = rw none refl
-  none_bytes (Some w) zero = refl
-  none_bytes (Some w) (suc k) = rw none refl
+  none_bytes Frames zero = refl
+  none_bytes Frames (suc k) = rw none refl
+  none_bytes (Filled last) k =
+      ap (filled_behind last) (frames_stop k now none) ∙ filled-none last
+  none_bytes (Units w) zero = refl
+  none_bytes (Units w) (suc k) = rw none refl
 
-  none_stream : (stream : Option WrittenStream) (k : ℕ) → stream_behind_up_to stream k now ≡ stream
+  none_written : (written : Written) (k : ℕ) → written_behind_up_to written k now ≡ written
   unfolding streams_up_to
-  none_stream None k = refl
-  none_stream (Some w) zero = refl
-  none_stream (Some w) (suc k) = rw none refl
+  none_written Frames k = refl
+  none_written (Filled last) k =
+      ap Filled (ap (last_frame last) (frames_stop k now none) ∙ last-none last)
+  none_written (Units w) zero = refl
+  none_written (Units w) (suc k) = rw none refl
 
   none_freed : (k : ℕ) → freed_up_to k now ≡ []
   unfolding freed_up_to
   none_freed zero = refl
   none_freed (suc k) = rw none refl
 
-last_bytes : (stream : Option WrittenStream) (now : Reception) → output_up_to stream 0 now ≡ []
+last_bytes : (written : Written) (now : Reception) → output_up_to written 0 now ≡ []
 unfolding bytes_up_to streamed_up_to
-last_bytes None now = refl
-last_bytes (Some w) now = refl
+last_bytes Frames now = refl
+last_bytes (Filled last) now = ap (filled_behind last) (no_frames now) ∙ filled-none last
+last_bytes (Units w) now = refl
 
-last_stream : (stream : Option WrittenStream) (now : Reception)
-    → stream_behind_up_to stream 0 now ≡ stream
+last_written : (written : Written) (now : Reception)
+    → written_behind_up_to written 0 now ≡ written
 unfolding streams_up_to
-last_stream None now = refl
-last_stream (Some w) now = refl
+last_written Frames now = refl
+last_written (Filled last) now =
+    ap Filled (ap (last_frame last) (no_frames now) ∙ last-none last)
+last_written (Units w) now = refl
 
 last_freed : (now : Reception) → freed_up_to 0 now ≡ []
 unfolding freed_up_to
 last_freed now = refl
 
-pub releasing_begins : {n left : ℕ} → left ≡ n → (r : Reception) (stream : Option WrittenStream)
+pub releasing_begins : {n left : ℕ} → left ≡ n → (r : Reception) (written : Written)
     (held : Option (List ℕ)) (told : Option Told)
-    → IsReleasing n left r r stream stream held held told told
-releasing_begins e r stream held told = rw e (record {
+    → IsReleasing n left r r written written held held told told
+releasing_begins e r written held told = rw e (record {
   value = refl;
-  streams = refl;
+  kept = refl;
   bytes = [];
   grew = Grew-none held;
   others = refl;
@@ -106,40 +126,40 @@ releasing_begins e r stream held told = rw e (record {
   places = refl;
 })
 
-module _ {n left k : ℕ} {first now : Reception} {stream_first stream : Option WrittenStream}
+module _ {n left k : ℕ} {first now : Reception} {written_first written : Written}
     {held_first held : Option (List ℕ)} {told_first told : Option Told} (one_left : left ≡ suc k)
-    (so_far : IsReleasing n left first now stream_first stream held_first held told_first told)
+    (so_far : IsReleasing n left first now written_first written held_first held told_first told)
     (picture : Releasable) (next : next_picture now ≡ Some picture) where
-  p : IsReleasing n (suc k) first now stream_first stream held_first held told_first told
+  p : IsReleasing n (suc k) first now written_first written held_first held told_first told
   p = rw one_left at so_far
 
   abbrev bytes : List ℕ
-  bytes = released_output stream now picture
+  bytes = released_output written now picture
 
   abbrev then : Reception
   then = releases_picture_of now picture
 
-  abbrev behind_it : Option WrittenStream
-  behind_it = stream_behind_picture stream now picture
+  abbrev behind_it : Written
+  behind_it = written_behind_picture written now picture
 
-  pub releasing_goes_on : (behind : Reception) (stream_behind : Option WrittenStream)
+  pub releasing_goes_on : (behind : Reception) (written_later : Written)
       (held_behind : Option (List ℕ)) (told_behind : Option Told)
-      → behind ≡ then → stream_behind ≡ behind_it
+      → behind ≡ then → written_later ≡ behind_it
       → Grew held held_behind bytes
       → Grows told told_behind (freeing (freed_places now picture.number))
-      → IsReleasing n k first behind stream_first stream_behind held_first held_behind told_first
+      → IsReleasing n k first behind written_first written_later held_first held_behind told_first
       told_behind
-  releasing_goes_on behind stream_behind held_behind told_behind e s grew grows = record {
+  releasing_goes_on behind written_later held_behind told_behind e s grew grows = record {
     value = ap (releases_up_to k) e ∙ sym (next_value now picture next k) ∙ p.value;
-    streams = ap (λ (o : Option WrittenStream). stream_behind_up_to o k behind) s
-        ∙ ap (stream_behind_up_to behind_it k) e
-        ∙ sym (next_stream now picture next k stream) ∙ p.streams;
+    kept = ap (λ (o : Written). written_behind_up_to o k behind) s
+        ∙ ap (written_behind_up_to behind_it k) e
+        ∙ sym (next_written now picture next k written) ∙ p.kept;
     bytes = p.bytes ++ bytes;
     grew = Grew-then held_first held held_behind p.bytes bytes p.grew grew;
-    others = append_assoc p.bytes bytes (output_up_to stream_behind k behind)
-        ∙ ap (λ (o : Option WrittenStream). p.bytes ++ (bytes ++ output_up_to o k behind)) s
+    others = append_assoc p.bytes bytes (output_up_to written_later k behind)
+        ∙ ap (λ (o : Written). p.bytes ++ (bytes ++ output_up_to o k behind)) s
         ∙ ap (λ (r : Reception). p.bytes ++ (bytes ++ output_up_to behind_it k r)) e
-        ∙ ap (λ (l : List ℕ). p.bytes ++ l) (sym (next_bytes now picture next k stream)) ∙ p.others;
+        ∙ ap (λ (l : List ℕ). p.bytes ++ l) (sym (next_bytes now picture next k written)) ∙ p.others;
     freed = p.freed ++ freed_places now picture.number;
     grows = grows_twice told_first told told_behind (freeing p.freed)
         (freeing (freed_places now picture.number)) p.grows grows;
@@ -150,28 +170,28 @@ module _ {n left k : ℕ} {first now : Reception} {stream_first stream : Option 
 
   pub releasing_fails : (held_behind : Option (List ℕ))
       → GrewBySome held held_behind bytes
-      → GrewBySome held_first held_behind (output_up_to stream_first n first)
+      → GrewBySome held_first held_behind (output_up_to written_first n first)
   releasing_fails held_behind some = subst (GrewBySome held_first held_behind)
-      (ap (λ (l : List ℕ). p.bytes ++ l) (sym (next_bytes now picture next k stream)) ∙ p.others)
+      (ap (λ (l : List ℕ). p.bytes ++ l) (sym (next_bytes now picture next k written)) ∙ p.others)
       (GrewBySome-then held_first held held_behind p.bytes
       (bytes ++ output_up_to behind_it k then) p.grew
       (GrewBySome-front held held_behind bytes (output_up_to behind_it k then) some))
 
 -- the releases are done
-module _ {left : ℕ} {first now : Reception} {stream_first stream : Option WrittenStream}
+module _ {left : ℕ} {first now : Reception} {written_first written : Written}
     {held_first held : Option (List ℕ)} {told_first told : Option Told}
-    (p : IsReleasing (book_count first) left first now stream_first stream held_first held
+    (p : IsReleasing (book_count first) left first now written_first written held_first held
     told_first told) where
   abbrev Released : Type 0
-  Released = AreReleased told_first told held_first held stream_first stream first now
+  Released = AreReleased told_first told held_first held written_first written first now
 
-  done : releases_up_to left now ≡ now → stream_behind_up_to stream left now ≡ stream
-      → output_up_to stream left now ≡ [] → freed_up_to left now ≡ [] → Released
+  done : releases_up_to left now ≡ now → written_behind_up_to written left now ≡ written
+      → output_up_to written left now ≡ [] → freed_up_to left now ≡ [] → Released
   done e s b f = grind (arith, append-nil)
 
   pub releasing_stops : next_picture now ≡ None → Released
-  releasing_stops none = done (none_value now none left) (none_stream now none stream left)
-      (none_bytes now none stream left) (none_freed now none left)
+  releasing_stops none = done (none_value now none left) (none_written now none written left)
+      (none_bytes now none written left) (none_freed now none left)
 
   pub releasing_ends : left ≡ 0 → Released
-  releasing_ends e = grind (arith, done, none_released, last_stream, last_bytes, last_freed)
+  releasing_ends e = grind (arith, done, none_released, last_written, last_bytes, last_freed)

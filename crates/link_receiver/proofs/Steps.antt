@@ -18,7 +18,8 @@ use Rattle.link_slices.specs.Jobs.{answered_run, jobs_of_run, made_run}
 use Rattle.machine_model.specs.Places.{Job}
 use Rattle.link_receiver.specs.Shown.{shown_bytes}
 use Rattle.link_pictures.specs.Outputs.{released_output}
-use Rattle.link_pictures.specs.Writing.{WrittenStream}
+use Rattle.link_pictures.specs.declared.written.Written.{Written}
+use Rattle.link_pictures.specs.declared.written.Written.TheVariants.{Frames, Filled, Units}
 use Rattle.vc_slice.specs.Asked.{Told, Grows, one_offer, taking, leaving}
 use Rattle.vc_slice.specs.declared.run.RunDone.{RunDone}
 use Rattle.vc_slice.specs.declared.run.RunJob.{RunJob}
@@ -33,10 +34,11 @@ whole_by_some s (Some book) h = (s, h)
 
 module _ (r : Reception) (st : StandingSession) (picture : Releasable)
     (e : r.standing ≡ Some st) where
-  pub shown_output : (stream : Option WrittenStream)
-      → shown_bytes stream st r.answers r.field picture.number ≡ released_output stream r picture
-  shown_output None = rw e refl
-  shown_output (Some w) = rw e refl
+  pub shown_output : (written : Written)
+      → shown_bytes written st r.answers r.field picture.number ≡ released_output written r picture
+  shown_output Frames = rw e refl
+  shown_output (Filled last) = rw e refl
+  shown_output (Units w) = rw e refl
 
 -- ---- a run is put
 

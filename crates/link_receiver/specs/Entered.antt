@@ -9,31 +9,31 @@ use Rattle.receiver_model.specs.Receptions.{Reception}
 use Rattle.receiver_model.specs.Releasing.{next_picture}
 use Rattle.receiver_model.specs.Standing.{AreDecodings}
 use Rattle.link_slices.specs.Calls.{PlaceCall, told_of, exchanges_of, freeing}
-use Rattle.link_pictures.specs.Outputs.{datagram_output, stream_behind_datagram, end_output}
-use Rattle.link_pictures.specs.Writing.{WrittenStream}
+use Rattle.link_pictures.specs.Outputs.{datagram_output, written_behind_datagram, end_output}
+use Rattle.link_pictures.specs.declared.written.Written.{Written}
 use Rattle.vc_ports.specs.Writing.{Grew}
 use Rattle.vc_slice.specs.Asked.{Told, told_more, Grows}
 use Rattle.link_receiver.specs.Freeing.{all_freed_places}
 use Rattle.link_receiver.specs.Offers.{AreOffersOf, DecodesLittle, proposed_in, are_asked}
 
--- what places told before and behind a call, what a sink held, and the stream that is written
+-- what places told before and behind a call, what a sink held, and what is kept of what was written
 pub record Outside : Type 0 where
   pub told_before : Option Told
   pub told_behind : Option Told
   pub held_before : Option (List ℕ)
   pub held_behind : Option (List ℕ)
-  pub stream_before : Option WrittenStream
-  pub stream_behind : Option WrittenStream
+  pub written_before : Written
+  pub written_behind : Written
 
 abbrev pub outside_of : {P O : Type 0} → (P → Option Told) → (O → Option (List ℕ)) → P → P → O → O
-    → Option WrittenStream → Option WrittenStream → Outside
-outside_of told held places places_behind sink sink_behind stream stream_behind = record {
+    → Written → Written → Outside
+outside_of told held places places_behind sink sink_behind written written_behind = record {
   told_before = told places;
   told_behind = told places_behind;
   held_before = held sink;
   held_behind = held sink_behind;
-  stream_before = stream;
-  stream_behind = stream_behind;
+  written_before = written;
+  written_behind = written_behind;
 }
 
 -- A datagram was taken, with these calls of places. Each slice that it brings was offered, and a
@@ -45,10 +45,10 @@ pub record IsEntered (outside : Outside) (old new : Reception) (datagram : List 
   pub told : Grows outside.told_before outside.told_behind (told_more (told_of calls)
       (freeing (all_freed_places (before_releases old datagram (exchanges_of calls)))))
   pub value : new ≡ takes_datagram old datagram (exchanges_of calls)
-  pub stream : outside.stream_behind
-      ≡ stream_behind_datagram outside.stream_before old datagram (exchanges_of calls)
+  pub kept : outside.written_behind
+      ≡ written_behind_datagram outside.written_before old datagram (exchanges_of calls)
   pub written : Grew outside.held_before outside.held_behind
-      (datagram_output outside.stream_before old datagram (exchanges_of calls))
+      (datagram_output outside.written_before old datagram (exchanges_of calls))
   pub judgement : outcome ≡ judged old datagram
   pub decodings : AreDecodings (dones_in (exchanges_of calls))
   pub offered : AreOffersOf (datagram_jobs old datagram) (proposed_in (exchanges_of calls))
@@ -63,7 +63,7 @@ pub record IsDrained (outside : Outside) (old new : Reception) (calls : List Pla
       (freeing (all_freed_places (all_exchanged (ends_input old) (exchanges_of calls)))))
   pub value : new ≡ takes_end old (exchanges_of calls)
   pub written : Grew outside.held_before outside.held_behind
-      (end_output outside.stream_before old (exchanges_of calls))
+      (end_output outside.written_before old (exchanges_of calls))
   pub decodings : AreDecodings (dones_in (exchanges_of calls))
   pub offered : proposed_in (exchanges_of calls) ≡ []
   pub asked : is_some (next_picture (ends_input old)) ≡ true

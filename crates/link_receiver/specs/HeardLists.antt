@@ -1,8 +1,9 @@
 -- The lists of datagrams that a receiver has heard, what it writes of them, and what its calls of
 -- places told.
-use Rattle.std.specs.Prelude.{◌≡◌, ℕ, ◌≤◌, true, false, List, [], ◌∷◌, ◌++◌, length, drop}
+use Rattle.std.specs.Prelude.{◌≡◌, ℕ, ◌≤◌, Bool, true, false, List, [], ◌∷◌, ◌++◌, length, drop}
 use Rattle.std.specs.Prelude.{Option, Some, None}
 use Rattle.std.specs.List.{flat_map}
+use Rattle.fill_model.specs.FilledSessions.{filled_so_far, filled_output, frame_written_last}
 use Rattle.machine_model.specs.Feeders.{Feeder, kept_job}
 use Rattle.link_model.specs.Output.{output_so_far, full_output, is_closed_in}
 use Rattle.machine_model.specs.Places.{Job}
@@ -17,22 +18,32 @@ use Rattle.stream_model.specs.Streams.{stream_so_far, stream_of}
 use Rattle.link_slices.specs.Jobs.{jobs_of_run}
 use Rattle.link_pictures.specs.Standing.{StreamsFor}
 use Rattle.link_pictures.specs.Writing.{WrittenStream}
+use Rattle.link_pictures.specs.declared.written.Written.TheVariants.{Frames, Filled, Units}
 use Rattle.vc_slice.specs.Asked.{Told, Grows}
 
 -- ---- what is due
 
--- what a receiver makes of datagrams: the raw frames, or the elementary stream of the first session
+-- what a receiver makes of datagrams: the raw frames, these without gaps, or the elementary stream of
+-- the first session
 pub data OutputForm : Type 0 where
   AsFrames : OutputForm
+  AsFilled : OutputForm
   AsUnits : OutputForm
+
+-- raw frames, without gaps where these are filled
+abbrev pub frames_form : Bool → OutputForm
+frames_form true = AsFilled
+frames_form false = AsFrames
 
 abbrev pub due_so_far : OutputForm → ℕ → List (List ℕ) → List ℕ
 due_so_far AsFrames size datagrams = output_so_far size datagrams
+due_so_far AsFilled size datagrams = filled_so_far size datagrams
 due_so_far AsUnits size datagrams = stream_so_far size datagrams
 
 -- once the input has ended
 abbrev pub due_in_all : OutputForm → ℕ → List (List ℕ) → List ℕ
 due_in_all AsFrames size datagrams = full_output size datagrams
+due_in_all AsFilled size datagrams = filled_output size datagrams
 due_in_all AsUnits size datagrams = stream_of size datagrams
 
 -- what is due with one datagram more, and wasn't before
@@ -47,10 +58,12 @@ still_due form size datagrams =
 
 -- ---- what was heard
 
--- it has no stream where it writes frames, and else the one that was written of these datagrams
+-- it keeps what was written of these datagrams: of frames nothing, without gaps the last frame, and
+-- else the stream
 abbrev pub WritesAs : OutputForm → ReceiverState → ℕ → List (List ℕ) → Type 0
-WritesAs AsFrames r size datagrams = r.stream ≡ None
-WritesAs AsUnits r size datagrams = (w : WrittenStream) × (r.stream ≡ Some w)
+WritesAs AsFrames r size datagrams = r.written ≡ Frames
+WritesAs AsFilled r size datagrams = r.written ≡ Filled (frame_written_last size datagrams)
+WritesAs AsUnits r size datagrams = (w : WrittenStream) × (r.written ≡ Units w)
     × StreamsFor r.reception w size datagrams
 
 -- it stands for these datagrams, of which pictures keep the slices that are out, and its input goes

@@ -1,8 +1,9 @@
--- What goes out of a released picture by its planes, what becomes of the stream, and what the
+-- What goes out of a released picture by its planes, what is kept of what was written, and what the
 -- picture leaves.
 use Rattle.std.specs.Prelude.{◌≡◌, ℕ, is_some, List, Option, Some, None, IfSome}
 use Rattle.std.specs.Prelude.{Result, Err, OnOk, OnErr}
-use Rattle.std.specs.Option.{option_map}
+use Rattle.fill_model.specs.Filled.{WrittenFrame, filled_behind, last_frame}
+use Rattle.fill_model.specs.FilledSessions.{written_frame}
 use Rattle.link_model.specs.Output.{raw_bytes}
 use Rattle.receiver_model.specs.Receptions.{StandingSession, FirstField, PictureAnswers}
 use Rattle.receiver_model.specs.Receptions.{answers_without}
@@ -13,8 +14,10 @@ use Rattle.link_receiver.specs.declared.fault.StepFault.{StepFault}
 use Rattle.link_receiver.specs.declared.fault.StepFault.TheVariants as step
 use Rattle.link_receiver.specs.declared.showing.Seen.{Seen}
 use Rattle.link_pictures.specs.Receiving.{whole_in}
-use Rattle.link_pictures.specs.Writing.{WrittenStream, ReleasedPicture}
+use Rattle.link_pictures.specs.Writing.{ReleasedPicture}
 use Rattle.link_pictures.specs.Writing.{writes_picture, picture_bytes}
+use Rattle.link_pictures.specs.declared.written.Written.{Written}
+use Rattle.link_pictures.specs.declared.written.Written.TheVariants.{Frames, Filled, Units}
 use Rattle.vc_ports.specs.Faults.{HasCause}
 use Rattle.vc_ports.specs.Writing.{Grew, GrewBySome}
 use Rattle.vc_types.specs.Planes.{Planes}
@@ -34,17 +37,28 @@ shown_picture st answers field n = record {
   waits = is_some (field_behind st.session.sequence n (released_planes answers st.window n));
 }
 
--- its frame, or the units of that frame's pictures
-abbrev pub shown_bytes : Option WrittenStream → StandingSession → List PictureAnswers
-    → Option FirstField → ℕ → List ℕ
-shown_bytes None st answers field n =
-    raw_bytes st.session.sequence (shown_frame st answers field n)
-shown_bytes (Some w) st answers field n = picture_bytes w (shown_picture st answers field n)
+abbrev pub shown_frames : StandingSession → List PictureAnswers → Option FirstField → ℕ
+    → List WrittenFrame
+shown_frames st answers field n =
+    written_frame st.session.sequence n (shown_frame st answers field n)
 
-abbrev pub stream_behind_shown : Option WrittenStream → StandingSession → List PictureAnswers
-    → Option FirstField → ℕ → Option WrittenStream
-stream_behind_shown stream st answers field n =
-    option_map (λ w. writes_picture w (shown_picture st answers field n)) stream
+-- its frame, with repeats of the one before it where gaps are filled, or the units of that frame's
+-- pictures
+abbrev pub shown_bytes : Written → StandingSession → List PictureAnswers → Option FirstField → ℕ
+    → List ℕ
+shown_bytes Frames st answers field n =
+    raw_bytes st.session.sequence (shown_frame st answers field n)
+shown_bytes (Filled last) st answers field n =
+    filled_behind last (shown_frames st answers field n)
+shown_bytes (Units w) st answers field n = picture_bytes w (shown_picture st answers field n)
+
+abbrev pub written_behind_shown : Written → StandingSession → List PictureAnswers
+    → Option FirstField → ℕ → Written
+written_behind_shown Frames st answers field n = Frames
+written_behind_shown (Filled last) st answers field n =
+    Filled (last_frame last (shown_frames st answers field n))
+written_behind_shown (Units w) st answers field n =
+    Units (writes_picture w (shown_picture st answers field n))
 
 -- ---- what it leaves
 

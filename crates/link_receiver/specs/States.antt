@@ -1,14 +1,13 @@
--- A receiver as contracts see it: what it has, the stream that it writes, and whether it has
+-- A receiver as contracts see it: what it has, what it keeps of what it wrote, and whether it has
 -- failed.
 use Rattle.std.specs.Prelude.{◌≡◌, ◌≤◌, Bool, false, ◌||◌, Option, Some, None}
 use Rattle.receiver_model.specs.Receptions.{StandingSession, FirstField, Reception}
 use Rattle.receiver_model.specs.WholeBooks.{ArePicturePlanes}
-use Rattle.link_pictures.specs.Writing.{WrittenStream}
+use Rattle.link_pictures.specs.declared.written.Written.{Written}
 
--- a receiver of units has a stream, and one of frames has none
 pub record ReceiverState : Type 0 where
   pub reception : Reception
-  pub stream : Option WrittenStream
+  pub written : Written
   pub has_failed : Bool
 
 -- it failed, or the input has ended

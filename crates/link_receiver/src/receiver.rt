@@ -8,13 +8,15 @@ ghost use Rattle.receiver_model.specs.Standing.{AreDecodings};
 ghost use Rattle.link_receiver.specs.Entered.{IsEntered, IsDrained};
 ghost use Rattle.link_receiver.specs.HeardLists.{HasHeard, AskedPlaces, OfferedToPlaces};
 ghost use Rattle.link_receiver.specs.HeardLists.{OfferedNewSlices};
-ghost use Rattle.link_receiver.specs.HeardLists.{OutputForm, AsFrames, AsUnits};
+ghost use Rattle.link_receiver.specs.HeardLists.{OutputForm, AsFrames, AsFilled, AsUnits};
 ghost use Rattle.link_receiver.specs.HeardLists.{newly_due, still_due};
 ghost use Rattle.link_receiver.specs.States.{has_stopped};
 ghost use Rattle.link_receiver.specs.declared.fault.EnterFault.{EnterFault};
 ghost use Rattle.link_slices.specs.Calls.{PlaceCall, PlacesAreBelow};
 ghost use Rattle.link_pictures.specs.Outputs.{datagram_output, end_output};
 ghost use Rattle.link_pictures.specs.Writing.{nothing_written};
+ghost use Rattle.link_pictures.specs.declared.written.Written.{Written};
+ghost use Rattle.link_pictures.specs.declared.written.Written.TheVariants.{Frames, Filled, Units};
 ghost use Rattle.vc_ports.specs.Faults.{HasCause};
 ghost use Rattle.vc_ports.specs.Writing.{Grew, GrewBySome};
 
@@ -22,7 +24,7 @@ use crate::fault::EnterFault;
 use crate::reception::Reception;
 use bytes::Bytes;
 use link_model::{Outcome, Tally};
-use link_pictures::StreamOutput;
+use link_pictures::{FilledFrames, StreamOutput, Written};
 use run_counts::MissingFrames;
 use std::alloc::Global;
 use std::marker::Model;
@@ -34,8 +36,7 @@ use vc_slice::Places;
 #[derive(Drop)]
 pub struct Receiver<H> {
     reception: Reception<H>,
-    /// What was written of the elementary stream, in a receiver of units.
-    stream: Option<StreamOutput>,
+    written: Written,
     has_failed: bool,
 }
 
@@ -46,13 +47,13 @@ impl<H> Model for Receiver<H> {
 
     ghost view = { λ r. record {
       reception = r.reception;
-      stream = r.stream;
+      written = r.written;
       has_failed = r.has_failed;
     } };
 
     ghost invariant = { λ r. IsReceiver (record {
       reception = r.reception;
-      stream = r.stream;
+      written = r.written;
       has_failed = r.has_failed;
     }) };
 }
@@ -66,14 +67,33 @@ impl<H: Threads + Copy> Receiver<H> {
         requires most { size ≤ 8 }
         ensures value { result ≡ record {
           reception = new_reception size;
-          stream = None;
+          written = Frames;
           has_failed = false;
         } }
         ensures heard { HasHeard AsFrames result size [] }
     {
         Receiver {
             reception: Reception::new(alloc, threads, size),
-            stream: None,
+            written: Written::Frames,
+            has_failed: false,
+        }
+    }
+
+    /// The same, but it writes frames without gaps: in each session, where at most 250 frames in a row are
+    /// missing between two that are written, the first of the two is written once more for each of them.
+    pub fn filled(alloc: Global, threads: Option<H>, size: u8) -> Receiver<H>
+        requires least { 2 ≤ size }
+        requires most { size ≤ 8 }
+        ensures value { result ≡ record {
+          reception = new_reception size;
+          written = Filled None;
+          has_failed = false;
+        } }
+        ensures heard { HasHeard AsFilled result size [] }
+    {
+        Receiver {
+            reception: Reception::new(alloc, threads, size),
+            written: Written::Filled(FilledFrames::new(alloc)),
             has_failed: false,
         }
     }
@@ -86,14 +106,14 @@ impl<H: Threads + Copy> Receiver<H> {
         requires most { size ≤ 8 }
         ensures value { result ≡ record {
           reception = new_reception size;
-          stream = Some nothing_written;
+          written = Units nothing_written;
           has_failed = false;
         } }
         ensures heard { HasHeard AsUnits result size [] }
     {
         Receiver {
             reception: Reception::new(alloc, threads, size),
-            stream: Some(StreamOutput::new(alloc)),
+            written: Written::Units(StreamOutput::new(alloc)),
             has_failed: false,
         }
     }
@@ -129,8 +149,8 @@ impl<H: Threads + Copy> Receiver<H> {
               told_behind = P.told places.new;
               held_before = O.held sink.old;
               held_behind = O.held sink.new;
-              stream_before = self.old.stream;
-              stream_behind = self.new.stream;
+              written_before = self.old.written;
+              written_behind = self.new.written;
             }) self.old.reception self.new.reception datagram outcome calls) }
         ensures ended { (result ≡ Err EnterFault.Ended) ↔ (has_stopped self.old ≡ true) }
         ensures unchanged { result ≡ Err EnterFault.Ended → (self.new ≡ self.old)
@@ -140,7 +160,7 @@ impl<H: Threads + Copy> Receiver<H> {
         ensures failed { OnErr result ((exchanges : List Exchange)
             × AreDecodings (dones_in exchanges)
             × GrewBySome (O.held sink.old) (O.held sink.new)
-            (datagram_output self.old.stream self.old.reception datagram exchanges)) }
+            (datagram_output self.old.written self.old.reception datagram exchanges)) }
         ensures cause { HasCause (O.faults sink.old) (O.faults sink.new)
             (result ≡ Err EnterFault.WriteFault) }
         ensures asked { AskedPlaces (P.told places.old) (P.told places.new) }
@@ -173,7 +193,7 @@ impl<H: Threads + Copy> Receiver<H> {
         }
         match self
             .reception
-            .enter(&mut self.stream, &datagram, places, sink)
+            .enter(&mut self.written, &datagram, places, sink)
         {
             Ok(outcome) => Ok(outcome),
             Err(fault) => {
@@ -200,8 +220,8 @@ impl<H: Threads + Copy> Receiver<H> {
               told_behind = P.told places.new;
               held_before = O.held sink.old;
               held_behind = O.held sink.new;
-              stream_before = self.old.stream;
-              stream_behind = self.new.stream;
+              written_before = self.old.written;
+              written_behind = self.new.written;
             }) self.old.reception self.new.reception calls) }
         ensures ended { (result ≡ Err EnterFault.Ended) ↔ (has_stopped self.old ≡ true) }
         ensures unchanged { result ≡ Err EnterFault.Ended → (self.new ≡ self.old)
@@ -210,7 +230,7 @@ impl<H: Threads + Copy> Receiver<H> {
         ensures failed { OnErr result ((exchanges : List Exchange)
             × AreDecodings (dones_in exchanges)
             × GrewBySome (O.held sink.old) (O.held sink.new)
-            (end_output self.old.stream self.old.reception exchanges)) }
+            (end_output self.old.written self.old.reception exchanges)) }
         ensures cause { HasCause (O.faults sink.old) (O.faults sink.new)
             (result ≡ Err EnterFault.WriteFault) }
         ensures asked { AskedPlaces (P.told places.old) (P.told places.new) }
@@ -232,7 +252,7 @@ impl<H: Threads + Copy> Receiver<H> {
         if self.has_failed || self.reception.has_ended() {
             return Err(EnterFault::Ended);
         }
-        match self.reception.finish(&mut self.stream, places, sink) {
+        match self.reception.finish(&mut self.written, places, sink) {
             Ok(()) => Ok(()),
             Err(fault) => {
                 self.has_failed = true;

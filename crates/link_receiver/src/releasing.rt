@@ -9,7 +9,7 @@ ghost use Rattle.link_receiver.specs.States.{WaitsForSecond};
 ghost use Rattle.link_receiver.specs.declared.fault.StepFault.{StepFault};
 ghost use Rattle.link_window.specs.Views.{releasable_of};
 ghost use Rattle.link_slices.specs.Calls.{PlacesAreBelow, freeing};
-ghost use Rattle.link_pictures.specs.Outputs.{released_output, stream_behind_picture};
+ghost use Rattle.link_pictures.specs.Outputs.{released_output, written_behind_picture};
 ghost use Rattle.link_pictures.specs.Outputs.{all_released_output};
 ghost use Rattle.vc_ports.specs.Faults.{HasCause};
 ghost use Rattle.vc_ports.specs.Writing.{Grew, GrewBySome};
@@ -19,7 +19,7 @@ use crate::counting::with_picture;
 use crate::fault::StepFault;
 use crate::reception::Reception;
 use crate::showing::show;
-use link_pictures::StreamOutput;
+use link_pictures::Written;
 use link_window::Released;
 use std::thread::Threads;
 use vc_ports::Sink;
@@ -31,7 +31,7 @@ impl<H: Threads + Copy> Reception<H> {
     pub(crate) fn release_all<P: Places, O: Sink>(
         &mut self,
         mut next: Option<Released>,
-        stream: &mut Option<StreamOutput>,
+        written: &mut Written,
         places: &mut P,
         sink: &mut O,
     ) -> Result<(), StepFault>
@@ -39,10 +39,10 @@ impl<H: Threads + Copy> Reception<H> {
         requires waiting { WaitsForSecond self.old.standing self.old.field }
         requires below { PlacesAreBelow (P.bound places.old) self.old.out }
         ensures released { OnOk result (AreReleased (P.told places.old) (P.told places.new)
-            (O.held sink.old) (O.held sink.new) stream.old stream.new self.old self.new) }
+            (O.held sink.old) (O.held sink.new) written.old written.new self.old self.new) }
         ensures waiting { OnOk result (WaitsForSecond self.new.standing self.new.field) }
         ensures err { OnErr result (GrewBySome (O.held sink.old) (O.held sink.new)
-            (all_released_output stream.old self.old)) }
+            (all_released_output written.old self.old)) }
         ensures cause { HasCause (O.faults sink.old) (O.faults sink.new)
             (result ≡ Err StepFault.WriteFault) }
         ensures places { KeepsPlaces P.told P.bound places.old places.new self.new.out }
@@ -52,7 +52,7 @@ impl<H: Threads + Copy> Reception<H> {
                 return Ok(());
             };
             let number = picture.number;
-            self.release(picture, stream, places, sink)?;
+            self.release(picture, written, places, sink)?;
             self.note_released(number);
             next = self.next_release();
         }
@@ -82,7 +82,7 @@ impl<H: Threads + Copy> Reception<H> {
     fn release<P: Places, O: Sink>(
         &mut self,
         picture: Released,
-        stream: &mut Option<StreamOutput>,
+        written: &mut Written,
         places: &mut P,
         sink: &mut O,
     ) -> Result<(), StepFault>
@@ -91,15 +91,15 @@ impl<H: Threads + Copy> Reception<H> {
         requires below { PlacesAreBelow (P.bound places.old) self.old.out }
         ensures value { OnOk result (self.new
             ≡ releases_picture_of self.old (releasable_of picture)) }
-        ensures stream { OnOk result (stream.new
-            ≡ stream_behind_picture stream.old self.old (releasable_of picture)) }
+        ensures kept { OnOk result (written.new
+            ≡ written_behind_picture written.old self.old (releasable_of picture)) }
         ensures told { OnOk result (Grows (P.told places.old) (P.told places.new)
             (freeing (freed_places self.old picture.number))) }
         ensures written { OnOk result (Grew (O.held sink.old) (O.held sink.new)
-            (released_output stream.old self.old (releasable_of picture))) }
+            (released_output written.old self.old (releasable_of picture))) }
         ensures waiting { OnOk result (WaitsForSecond self.new.standing self.new.field) }
         ensures err { OnErr result (GrewBySome (O.held sink.old) (O.held sink.new)
-            (released_output stream.old self.old (releasable_of picture))) }
+            (released_output written.old self.old (releasable_of picture))) }
         ensures cause { HasCause (O.faults sink.old) (O.faults sink.new)
             (result ≡ Err StepFault.WriteFault) }
         ensures places { KeepsPlaces P.told P.bound places.old places.new self.new.out }
@@ -110,7 +110,7 @@ impl<H: Threads + Copy> Reception<H> {
         let number = picture.number;
         self.out.free_picture(number, places);
         let (answers, field) = (&mut self.answers, &mut self.field);
-        let seen = show(answers, field, stream, standing, number, sink)?;
+        let seen = show(answers, field, written, standing, number, sink)?;
         standing.release(number);
         self.counts = with_picture(
             &self.counts,

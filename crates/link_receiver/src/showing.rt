@@ -4,13 +4,17 @@ ghost use Rattle.link_model.specs.Books.{book_whole};
 ghost use Rattle.receiver_model.specs.Receptions.{answers_without};
 ghost use Rattle.receiver_model.specs.Releasing.{released_planes};
 ghost use Rattle.receiver_model.specs.WholeBooks.{ArePicturePlanes};
-ghost use Rattle.link_receiver.specs.Shown.{shown_picture, shown_bytes, stream_behind_shown};
+ghost use Rattle.link_receiver.specs.Shown.{shown_picture, shown_frames, shown_bytes, written_behind_shown};
 ghost use Rattle.link_receiver.specs.Shown.{WaitsIn, IsSeen, StepWrites};
+ghost use Rattle.fill_model.specs.Filled.{last_frame};
 ghost use Rattle.link_pictures.specs.Writing.{writes_picture};
+ghost use Rattle.link_pictures.specs.declared.written.Written.TheVariants.{Frames, Filled, Units};
 ghost use Rattle.vc_types.specs.Planes.{planes_in};
 
 use crate::fault::StepFault;
-use link_pictures::{Answers, FrameOutput, ReleasedPicture, Shown, StreamOutput};
+use link_pictures::{
+    Answers, FilledFrames, FrameOutput, ReleasedPicture, Shown, StreamOutput, Written,
+};
 use link_window::{PictureBook, Standing};
 use std::thread::Threads;
 use vc_ports::Sink;
@@ -23,12 +27,13 @@ pub(crate) struct Seen {
     pub(crate) shown: Shown,
 }
 
-/// Releases the answers of a picture, and writes the frame of which it is the last, or, where there
-/// is a stream, the units of that frame's pictures. What waits for a second field is the same.
+/// Releases the answers of a picture, and writes the frame of which it is the last, with repeats of the one
+/// before it where gaps are filled, or the units of that frame's pictures. What waits for a second field is
+/// the same.
 pub(crate) fn show<H: Threads + Copy, O: Sink>(
     answers: &mut Answers<H>,
     field: &mut FrameOutput,
-    stream: &mut Option<StreamOutput>,
+    written: &mut Written,
     standing: &Standing,
     number: u64,
     sink: &mut O,
@@ -36,14 +41,15 @@ pub(crate) fn show<H: Threads + Copy, O: Sink>(
     requires waiting { WaitsIn standing.now field.old }
     ensures seen { IfOk result
         (IsSeen standing.now number answers.old field.old answers.new field.new) }
-    ensures stream { OnOk result (stream.new
-        ≡ stream_behind_shown stream.old standing.now answers.old field.old number) }
+    ensures kept { OnOk result (written.new
+        ≡ written_behind_shown written.old standing.now answers.old field.old number) }
     ensures wrote { StepWrites O.held O.faults sink.old sink.new result
-        (shown_bytes stream.old standing.now answers.old field.old number) }
+        (shown_bytes written.old standing.now answers.old field.old number) }
 {
-    match stream {
-        Some(stream) => show_units(answers, field, stream, standing, number, sink),
-        None => show_frame(answers, field, standing, number, sink),
+    match written {
+        Written::Frames => show_frame(answers, field, standing, number, sink),
+        Written::Filled(frames) => show_filled(answers, field, frames, standing, number, sink),
+        Written::Units(stream) => show_units(answers, field, stream, standing, number, sink),
     }
 }
 
@@ -58,11 +64,34 @@ fn show_frame<H: Threads + Copy, O: Sink>(
     ensures seen { IfOk result
         (IsSeen standing.now number answers.old field.old answers.new field.new) }
     ensures wrote { StepWrites O.held O.faults sink.old sink.new result
-        (shown_bytes None standing.now answers.old field.old number) }
+        (shown_bytes Frames standing.now answers.old field.old number) }
 {
     let planes = take_planes(answers, standing, number)?;
     let is_sound = planes.is_some();
     let shown = field.release(standing.header(), number, planes, sink)?;
+    hand_back(answers, field);
+    Ok(Seen { is_sound, shown })
+}
+
+fn show_filled<H: Threads + Copy, O: Sink>(
+    answers: &mut Answers<H>,
+    field: &mut FrameOutput,
+    frames: &mut FilledFrames,
+    standing: &Standing,
+    number: u64,
+    sink: &mut O,
+) -> Result<Seen, StepFault>
+    requires waiting { WaitsIn standing.now field.old }
+    ensures seen { IfOk result
+        (IsSeen standing.now number answers.old field.old answers.new field.new) }
+    ensures kept { OnOk result (frames.new ≡ last_frame frames.old
+        (shown_frames standing.now answers.old field.old number)) }
+    ensures wrote { StepWrites O.held O.faults sink.old sink.new result
+        (shown_bytes (Filled frames.old) standing.now answers.old field.old number) }
+{
+    let planes = take_planes(answers, standing, number)?;
+    let is_sound = planes.is_some();
+    let shown = frames.release(field, standing.header(), number, planes, sink)?;
     hand_back(answers, field);
     Ok(Seen { is_sound, shown })
 }
@@ -91,7 +120,7 @@ fn show_units<H: Threads + Copy, O: Sink>(
     ensures stream { OnOk result (stream.new ≡ writes_picture stream.old
         (shown_picture standing.now answers.old field.old number)) }
     ensures wrote { StepWrites O.held O.faults sink.old sink.new result
-        (shown_bytes (Some stream.old) standing.now answers.old field.old number) }
+        (shown_bytes (Units stream.old) standing.now answers.old field.old number) }
 {
     let whole = whole_bytes(standing.book(number))?;
     let seen = pass(answers, field, standing, number)?;

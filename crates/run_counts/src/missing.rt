@@ -1,6 +1,9 @@
 /// How many ranges of missing frames are kept.
 pub const MOST_GAPS: usize = 100;
 
+// So many frames in a row are filled where gaps are, and none where more are missing.
+const MOST_FILLED: u64 = 250;
+
 /// Frames between two that were written, which weren't: the numbers of the first and the last of them.
 #[derive(Clone, Copy)]
 pub struct Gap {
@@ -15,8 +18,9 @@ pub struct MissingFrames {
     gaps: [Gap; MOST_GAPS],
     count: usize,
     has_more: bool,
-    // How many frames were written.
+    // How many frames were written, and how many are missing in gaps that are filled.
     written: u64,
+    filled: u64,
     // The number that the frame has that follows the last one that was written in the session.
     next: Option<u64>,
 }
@@ -29,6 +33,7 @@ impl MissingFrames {
             count: 0,
             has_more: false,
             written: 0,
+            filled: 0,
             next: None,
         }
     }
@@ -36,6 +41,12 @@ impl MissingFrames {
     /// Those in ascending order, at most 100.
     pub fn gaps(&self) -> &[Gap] {
         self.gaps.get(..self.count).unwrap_or(&[])
+    }
+
+    /// How many frames are missing of which at most 250 are in a row: where gaps are filled, another is written
+    /// in the place of each.
+    pub fn filled(&self) -> u64 {
+        self.filled
     }
 
     /// Whether there are more than are kept.
@@ -67,6 +78,10 @@ impl MissingFrames {
         };
         if let Some(next) = self.next {
             if next < number {
+                let missing = number - next;
+                if missing <= MOST_FILLED {
+                    self.filled = self.filled.saturating_add(missing);
+                }
                 self.keep(Gap {
                     first: (next % (1 << bits)) as u32,
                     last: ((number - 1) % (1 << bits)) as u32,

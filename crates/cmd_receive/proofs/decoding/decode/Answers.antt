@@ -1,4 +1,4 @@
 use Rattle.cmd_receive.proofs.decoding.decode.Goals as goal
 
 pub returns : goal.returns
-returns g c = c.take_input.ensures _ _ c.new-receiver.ensures.heard
+returns g c = c.take_input.ensures _ _ c.frame_receiver-receiver.ensures.heard

@@ -8,7 +8,7 @@ use Rattle.link_receiver.proofs.reception.Reception.enter.Goals as goal
 
 pub returns-in_err-kept-clause-failed : goal.returns-in_err-kept-clause-failed
 returns-in_err-kept-clause-failed g c = on_err _ _
-    (fails_early c.args.stream.now c.args.self.now c.args.datagram.now _)
+    (fails_early c.args.written.now c.args.self.now c.args.datagram.now _)
 
 pub exchange-requires : goal.exchange-requires
 exchange-requires g c = record { below = rw c.keep.ensures.out c.requires.below }
@@ -19,7 +19,7 @@ release_all-requires-clause-waiting g c = waits_exchanged _ _ _ c.in_ok-kept.ens
 
 pub returns-in_err-release_all-clause-failed : goal.returns-in_err-release_all-clause-failed
 returns-in_err-release_all-clause-failed g c = on_err _ _ (fails_in _ _ _ c.in_ok-kept.ensures.value
-    c.in_ok-next.ensures.exchanged c.args.stream.now _ _ c.in_err-release_all.ensures.err)
+    c.in_ok-next.ensures.exchanged c.args.written.now _ _ c.in_err-release_all.ensures.err)
 
 pub open-requires-clause-least : goal.open-requires-clause-least
 open-requires-clause-least g c = subst (λ (n : ℕ). 2 ≤ n)
@@ -36,8 +36,8 @@ returns-in_err-open-clause-failed g c = on_err _ _ (fails_released _ _ _
     c.in_ok-kept.ensures.value c.in_ok-next.ensures.exchanged
     c.in_ok-release_all.ensures.released)
 
-pub returns-in_err-open_stream-clause-failed : goal.returns-in_err-open_stream-clause-failed
-returns-in_err-open_stream-clause-failed g c = on_err _ _ (fails_released _ _ _
+pub returns-in_err-open_next-clause-failed : goal.returns-in_err-open_next-clause-failed
+returns-in_err-open_next-clause-failed g c = on_err _ _ (fails_released _ _ _
     c.in_ok-kept.ensures.value c.in_ok-next.ensures.exchanged
     c.in_ok-release_all.ensures.released)
 
@@ -46,7 +46,7 @@ returns-clause-entered g c = enters _ _ _ c.in_ok-kept.ensures.value
     c.in_ok-next.ensures.exchanged
     c.in_ok-release_all.ensures.released c.is_idle-is_first.ensures c.deref.ensures
     c.in_ok-kept.ensures.jobs c.in_ok-kept.ensures.outcome
-    c.in_ok-kept.ensures.opening c.in_ok-open.ensures.value c.in_ok-open_stream.ensures
+    c.in_ok-kept.ensures.opening c.in_ok-open.ensures.value c.in_ok-open_next.ensures
 
 pub returns-clause-goes_on : goal.returns-clause-goes_on
 returns-clause-goes_on g c = goes_on_behind _ _ _ c.in_ok-kept.ensures.value
@@ -68,8 +68,8 @@ returns-in_err-next-clause-places g c = c.exchange.ensures.places
 pub returns-in_err-release_all-clause-places : goal.returns-in_err-release_all-clause-places
 returns-in_err-release_all-clause-places g c = keeps_twice c.exchange.ensures.places c.release_all.ensures.places
 
-pub returns-in_err-open_stream-clause-places : goal.returns-in_err-open_stream-clause-places
-returns-in_err-open_stream-clause-places g c = keeps_twice c.exchange.ensures.places c.release_all.ensures.places
+pub returns-in_err-open_next-clause-places : goal.returns-in_err-open_next-clause-places
+returns-in_err-open_next-clause-places g c = keeps_twice c.exchange.ensures.places c.release_all.ensures.places
 
 pub returns-in_err-open-clause-places : goal.returns-in_err-open-clause-places
 returns-in_err-open-clause-places g c = rw c.open.ensures.out (keeps_twice c.exchange.ensures.places c.release_all.ensures.places)

@@ -43,7 +43,7 @@ loop-preserved g c =
     record {
       releasing = rw c.note_released.ensures (releasing_goes_on e c.loop.invariant.releasing
           (releasable_of c.in-Some.picture) next _ _ _ _ c.in_ok-release.ensures.value
-          c.in_ok-release.ensures.stream
+          c.in_ok-release.ensures.kept
           c.in_ok-release.ensures.written c.in_ok-release.ensures.told);
       within = c.loop.invariant.within;
       later = omega (arith, c.loop.invariant.later, c.release.ensures.cause.later);

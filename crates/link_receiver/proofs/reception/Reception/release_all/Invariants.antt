@@ -10,7 +10,7 @@ use Rattle.link_receiver.proofs.reception.Reception.release_all.Given as goal
 abbrev pub invariant-loop : goal.invariant-loop
 invariant-loop g l = record {
   releasing : IsReleasing (book_count l.fn.self) (book_count l.fn.self - l.counter) l.fn.self
-      l.self l.fn.stream l.stream (g.O.Sink.held l.fn.sink) (g.O.Sink.held l.sink) (g.P.Places.told l.fn.places)
+      l.self l.fn.written l.written (g.O.Sink.held l.fn.sink) (g.O.Sink.held l.sink) (g.P.Places.told l.fn.places)
       (g.P.Places.told l.places);
   within : l.end ≡ book_count l.fn.self;
   later : g.O.Sink.faults l.fn.sink ≤ g.O.Sink.faults l.sink;
