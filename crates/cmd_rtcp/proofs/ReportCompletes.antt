@@ -17,7 +17,7 @@ use Rattle.cmd_rtcp.specs.Showing.{Shows}
 module _ (packets : ℕ) (form : InputForm) (input : InputChange) (output : OutputChange)
     (sound_input : HasRisen input.faults → ⊥) (sound_output : HasRisen output.faults → ⊥)
     (whole : IsSomeAnd input.left.before (IsWholeInput form packets)) where
-  completes : {A : Type 0} (written : List (List ℕ) → List ℕ) (is : A → List (List ℕ) → Type 0) (result : Result A Ending)
+  pub completes : {A : Type 0} (written : List (List ℕ) → List ℕ) (is : A → List (List ℕ) → Type 0) (result : Result A Ending)
       → AnswersInput written is form packets result input output → IsOk result ⊎ (result ≡ Err NoMemory)
   completes written is (Ok value) d = inl refl
   completes written is (Err NoMemory) d = inr refl

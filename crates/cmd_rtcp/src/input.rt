@@ -15,7 +15,7 @@ use vc_ports::{Sink, Source};
 /// Passes the datagrams of an input, of at most `part.packets` entries or records, to a scribe, and writes
 /// the text that it provides; returns the number of datagrams. If the input fails, or isn't read to its end,
 /// the text due for those that were read is still written.
-pub(crate) fn take_input<I: Source, O: Sink, S: Scribe>(
+pub fn take_input<I: Source, O: Sink, S: Scribe>(
     alloc: Global,
     part: &InputPart,
     input: &mut I,

@@ -14,4 +14,7 @@ mod text;
 mod writing;
 
 pub use command::{rtcp, rtcp_show};
+pub use input::take_input;
+pub use piece::Piece;
+pub use scribe::Scribe;
 pub use settings::{InputPart, ReportSettings};

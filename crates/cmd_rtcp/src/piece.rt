@@ -10,7 +10,7 @@ use vc_types::NoMemory;
 
 /// What is to be written at one time.
 #[derive(Drop)]
-pub(crate) enum Piece {
+pub enum Piece {
     Nothing,
     /// A datagram as the entry of a capture.
     Entry(Vec<u8>),

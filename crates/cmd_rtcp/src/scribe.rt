@@ -5,7 +5,7 @@ use vc_types::NoMemory;
 
 /// What has something to write for datagrams that come one after another, and at their end. Its facts speak
 /// of what it was at first, before any datagram, and of what it is now.
-pub(crate) trait Scribe {
+pub trait Scribe {
     ghost use Rattle.link_model.specs.Output.{IsPrefixOf};
     ghost use Rattle.cmd_rtcp.specs.Due.{Due};
     ghost use Rattle.cmd_rtcp.specs.Pieces.{EntryFits, piece_bytes};

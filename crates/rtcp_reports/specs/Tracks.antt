@@ -112,6 +112,10 @@ expected t = extended t + 1 - t.base
 abbrev pub loss : ℕ → ℕ → ℤ
 loss due came = int_max (neg_ℤ (pos 8388608)) (int_min (pos due -ℤ pos came) (pos 8388607))
 
+-- how many were lost so far: none of a source on probation
+abbrev pub lost_of : Tracked → ℤ
+lost_of t = if t.probation == 0 then loss (expected t) t.received else pos 0
+
 -- the share of an interval's packets that was lost, in 256ths
 abbrev pub fraction : ℕ → ℕ → ℕ
 fraction due came =

@@ -1,7 +1,7 @@
 ghost use Rattle.std.specs.Prelude.{◌≡◌, ◌≢◌, ◌↔◌, ◌+◌, ◌^◌, ◌<◌, ◌≤◌, IsNone, IfSome};
 ghost use Rattle.rtcp_reports.specs.Rtcp.{LossFits};
 ghost use Rattle.rtcp_reports.specs.Tracks.{fresh, restarted, packet_counted, wrapped, tried, jumped, updated};
-ghost use Rattle.rtcp_reports.specs.Tracks.{loss, fraction, block_of, reported};
+ghost use Rattle.rtcp_reports.specs.Tracks.{loss, lost_of, fraction, block_of, reported};
 
 use crate::block::Block;
 use std::marker::Model;
@@ -122,6 +122,33 @@ impl Track {
             lost: loss(expected, self.received),
             highest: (extended % (1 << 32)) as u32,
         })
+    }
+
+    /// How many packets were met.
+    pub fn met(&self) -> u64
+        ensures { result ≡ self.now.updates }
+    {
+        self.updates
+    }
+
+    /// The highest number that came, or the one before the first packet's.
+    pub fn greatest(&self) -> u16
+        ensures { result ≡ self.now.greatest }
+    {
+        self.greatest
+    }
+
+    /// How many packets were lost of those that were due, as far as 24 bits hold it: 0 on probation.
+    pub fn lost(&self) -> i32
+        ensures { result ≡ lost_of self.now }
+    {
+        if self.probation > 0 {
+            return 0;
+        }
+        loss(
+            self.cycles + u64::from(self.greatest) + 1 - u64::from(self.base),
+            self.received,
+        )
     }
 
     // A packet of a source on probation.

@@ -1,0 +1,4 @@
+pub mod SlicesBehind
+pub mod Changes
+pub mod Heard
+pub mod ProbeCompletes

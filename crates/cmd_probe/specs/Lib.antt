@@ -1,0 +1,16 @@
+pub mod Counting
+pub mod Changing
+pub mod Arrivals
+pub mod Steps
+pub mod Stamps
+pub mod Pictures
+pub mod Indices
+pub mod Presets
+pub mod HeaderLine
+pub mod TransformLine
+pub mod Said
+pub mod Sources
+pub mod Description
+pub mod Probers
+pub mod ProberLaws
+pub mod Probing
