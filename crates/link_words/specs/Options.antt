@@ -12,13 +12,13 @@ use Rattle.link_words.specs.declared.options.Name.TheVariants.{Scaler, Size, Ind
 use Rattle.link_words.specs.declared.options.Name.TheVariants.{Picture, Tick, Rate, Aspect, Colour, Pt}
 use Rattle.link_words.specs.declared.options.Name.TheVariants.{Frames, Seed, Count}
 use Rattle.link_words.specs.declared.options.Name.TheVariants.{Check, Window, Workers, Packets, Pcap}
-use Rattle.link_words.specs.declared.options.Name.TheVariants.{Port, Sessions, Pace, To, At, Every}
+use Rattle.link_words.specs.declared.options.Name.TheVariants.{Port, Sessions, Fill, Pace, To, At, Every}
 use Rattle.link_words.specs.declared.options.Name.TheVariants.{Reporter, Cname, BySender, Ntp, Idle}
 use Rattle.link_words.specs.declared.options.Name.TheVariants.{First, Progress, Seconds, Written}
 use Rattle.link_words.specs.declared.options.Command.{Command}
 use Rattle.link_words.specs.declared.options.Command.TheVariants.{Decode, Encode, Send, Recv, Loop}
 use Rattle.link_words.specs.declared.options.Command.TheVariants.{Unpack, Pack, Play, Gen}
-use Rattle.link_words.specs.declared.options.Command.TheVariants.{Rtcp, RtcpShow, Record, Replay}
+use Rattle.link_words.specs.declared.options.Command.TheVariants.{Rtcp, RtcpShow, Probe, Record, Replay}
 
 abbrev pub command_of : List ℕ → Option Command
 command_of word =
@@ -33,6 +33,7 @@ command_of word =
     else if bytes_eq word (codes "gen") then Some Gen
     else if bytes_eq word (codes "rtcp") then Some Rtcp
     else if bytes_eq word (codes "rtcp-show") then Some RtcpShow
+    else if bytes_eq word (codes "probe") then Some Probe
     else if bytes_eq word (codes "record") then Some Record
     else if bytes_eq word (codes "replay") then Some Replay
     else None
@@ -77,6 +78,7 @@ option_row Written = (codes "--frames", Number 0 4294967295 0)
 option_row First = (codes "--first", Number 0 4294967295 0)
 option_row Progress = (codes "--progress", Number 0 86400 0)
 option_row Sessions = (codes "--sessions", Number 1 4294967295 1)
+option_row Fill = (codes "--fill", Number 0 1 0)
 option_row Pace = (codes "--pace", Number 0 1 1)
 option_row To = (codes "--to", Address)
 option_row At = (codes "--at", Address)
@@ -95,11 +97,11 @@ sender_names =
 
 -- the options of each command
 abbrev pub names_of : Command → List Name
-names_of Decode = Window ∷ Workers ∷ Packets ∷ Pcap ∷ Port ∷ Progress ∷ []
+names_of Decode = Window ∷ Workers ∷ Packets ∷ Pcap ∷ Port ∷ Fill ∷ Progress ∷ []
 names_of Encode = sender_names ++ First ∷ Workers ∷ Progress ∷ []
 names_of Send = sender_names ++ First ∷ Workers ∷ Pace ∷ To ∷ Progress ∷ []
 names_of Recv =
-    Window ∷ Workers ∷ Packets ∷ Sessions ∷ Idle ∷ Seconds ∷ Written ∷ At ∷ Progress ∷ []
+    Window ∷ Workers ∷ Packets ∷ Sessions ∷ Idle ∷ Seconds ∷ Written ∷ Fill ∷ At ∷ Progress ∷ []
 names_of Loop = sender_names ++ First ∷ Window ∷ Workers ∷ At ∷ Progress ∷ []
 names_of Unpack = Window ∷ Workers ∷ Packets ∷ Pcap ∷ Port ∷ []
 names_of Pack = Packets ∷ Size ∷ Ssrc ∷ Pt ∷ Seq ∷ Tick ∷ Rate ∷ []
@@ -108,6 +110,7 @@ names_of Gen =
     Width ∷ Height ∷ Sampling ∷ Range ∷ Fields ∷ Top ∷ Seed ∷ Count ∷ Check ∷ Window ∷ Workers ∷ []
 names_of Rtcp = Every ∷ Reporter ∷ Cname ∷ BySender ∷ Ntp ∷ Packets ∷ Pcap ∷ Port ∷ []
 names_of RtcpShow = Packets ∷ Pcap ∷ Port ∷ []
+names_of Probe = Packets ∷ Pcap ∷ Port ∷ []
 names_of Record = Packets ∷ Sessions ∷ Idle ∷ Seconds ∷ At ∷ Progress ∷ []
 names_of Replay = Packets ∷ Pace ∷ To ∷ Progress ∷ []
 

@@ -28,12 +28,12 @@ use Rattle.link_words.specs.declared.options.Name.TheVariants.{Scaler, Size, Ind
 use Rattle.link_words.specs.declared.options.Name.TheVariants.{Picture, Tick, Rate, Aspect, Colour, Pt}
 use Rattle.link_words.specs.declared.options.Name.TheVariants.{Frames, Seed, Count}
 use Rattle.link_words.specs.declared.options.Name.TheVariants.{Check, Window, Workers, Packets, Pcap}
-use Rattle.link_words.specs.declared.options.Name.TheVariants.{Port, Sessions, Pace, To, At, Every}
+use Rattle.link_words.specs.declared.options.Name.TheVariants.{Port, Sessions, Fill, Pace, To, At, Every}
 use Rattle.link_words.specs.declared.options.Name.TheVariants.{Reporter, Cname, BySender, Ntp, Idle}
 use Rattle.link_words.specs.declared.options.Command.{Command}
 use Rattle.link_words.specs.declared.options.Command.TheVariants.{Decode, Encode, Send, Recv, Loop}
 use Rattle.link_words.specs.declared.options.Command.TheVariants.{Unpack, Pack, Play, Gen}
-use Rattle.link_words.specs.declared.options.Command.TheVariants.{Rtcp, RtcpShow, Record, Replay}
+use Rattle.link_words.specs.declared.options.Command.TheVariants.{Rtcp, RtcpShow, Probe, Record, Replay}
 
 -- ---- what is given
 
@@ -190,10 +190,10 @@ generator words = if generating_fits (given_frames words) then Some (generating_
 -- listens (--seconds, and --frames of recv) and with how many frames its input ends (--first) is no part of
 -- it.
 pub data Meaning : Type 0 where
-  ToDecode : (window workers packets : ℕ) (pcap : Option ℕ) → Meaning
+  ToDecode : (window workers packets : ℕ) (pcap : Option ℕ) (fill : Bool) → Meaning
   ToEncode : (sender : Sending) (frames workers : ℕ) → Meaning
   ToSend : (sender : Sending) (frames workers : ℕ) (paced : Bool) (to : List ℕ) → Meaning
-  ToRecv : (window workers packets sessions idle : ℕ) (at : List ℕ) → Meaning
+  ToRecv : (window workers packets sessions idle : ℕ) (fill : Bool) (at : List ℕ) → Meaning
   ToLoop : (sender : Sending) (frames window workers : ℕ) (at : List ℕ) → Meaning
   ToUnpack : (window workers packets : ℕ) (pcap : Option ℕ) → Meaning
   ToPack : (packets size ssrc pt seq : ℕ) (rate : FrameRate) → Meaning
@@ -202,13 +202,15 @@ pub data Meaning : Type 0 where
   ToRtcp : (every ssrc : ℕ) (name : List ℕ) (is_sender : Bool) (ntp packets : ℕ) (pcap : Option ℕ)
       → Meaning
   ToRtcpShow : (packets : ℕ) (pcap : Option ℕ) → Meaning
+  ToProbe : (packets : ℕ) (pcap : Option ℕ) → Meaning
   ToRecord : (packets sessions idle : ℕ) (at : List ℕ) → Meaning
   ToReplay : (packets : ℕ) (paced : Bool) (to : List ℕ) → Meaning
 
 -- what a command is set to, where its settings go together
 unfoldable pub meaning : Command → List (List ℕ) → Option Meaning
 meaning Decode words =
-    Some (ToDecode (given words Window) (given words Workers) (given words Packets) (pcap_of words))
+    Some (ToDecode (given words Window) (given words Workers) (given words Packets) (pcap_of words)
+    (is_set words Fill))
 meaning Encode words =
     option_map (λ s. ToEncode s (given words Frames) (given words Workers)) (sender words)
 meaning Send words = option_map (λ s.
@@ -216,7 +218,7 @@ meaning Send words = option_map (λ s.
     (sender words)
 meaning Recv words =
     Some (ToRecv (given words Window) (given words Workers) (given words Packets)
-    (given words Sessions) (given words Idle) (value_of words At))
+    (given words Sessions) (given words Idle) (is_set words Fill) (value_of words At))
 meaning Loop words = option_map (λ s.
     ToLoop s (given words Frames) (given words Window) (given words Workers) (value_of words At))
     (sender words)
@@ -232,6 +234,7 @@ meaning Rtcp words =
     Some (ToRtcp (given words Every) (given words Reporter) (text_given words Cname default_name)
     (is_set words BySender) (given words Ntp) (given words Packets) (pcap_of words))
 meaning RtcpShow words = Some (ToRtcpShow (given words Packets) (pcap_of words))
+meaning Probe words = Some (ToProbe (given words Packets) (pcap_of words))
 meaning Record words =
     Some (ToRecord (given words Packets) (given words Sessions) (given words Idle)
     (value_of words At))

@@ -175,6 +175,7 @@ pub(crate) fn word_of(command: Command) -> &'static str
         Command::Gen => "gen",
         Command::Rtcp => "rtcp",
         Command::RtcpShow => "rtcp-show",
+        Command::Probe => "probe",
         Command::Record => "record",
         Command::Replay => "replay",
     }

@@ -1,7 +1,7 @@
 use crate::options::{Command, Name};
 
 /// The commands in the order of the page, each with what it reads and writes.
-pub(crate) const COMMANDS: [(Command, &str); 13] = [
+pub(crate) const COMMANDS: [(Command, &str); 14] = [
     (
         Command::Encode,
         "raw frames from the input; a capture of the datagrams that carry them to the output",
@@ -54,10 +54,14 @@ pub(crate) const COMMANDS: [(Command, &str); 13] = [
         Command::RtcpShow,
         "a capture of RTCP reports from the input; each of them as lines of text to the output",
     ),
+    (
+        Command::Probe,
+        "a capture from the input; what its datagrams hold as lines of text to the output",
+    ),
 ];
 
 /// The options in the order of the page, each with what it means.
-pub(crate) const NAMES: [(Name, &str); 46] = [
+pub(crate) const NAMES: [(Name, &str); 47] = [
     (Name::Width, "samples in a row of luma"),
     (Name::Height, "rows of luma in a frame"),
     (Name::Sampling, "4:4:4, 4:2:2 or 4:2:0"),
@@ -158,6 +162,10 @@ pub(crate) const NAMES: [(Name, &str); 46] = [
     (
         Name::Written,
         "frames after which it listens no longer; those of open pictures follow; 0: it goes on",
+    ),
+    (
+        Name::Fill,
+        "1: the frame before is written once more for each that is missing, if at most 250 are in a row",
     ),
     (
         Name::Progress,

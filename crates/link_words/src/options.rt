@@ -2,9 +2,9 @@ ghost use Rattle.std.specs.Prelude.{◌≡◌};
 ghost use Rattle.link_words.specs.Options.{command_of, names_of, option_row, name_in, is_required};
 
 use Name::{
-    Aspect, At, Budget, BySender, Check, Cname, Colour, Count, Depth, Every, Fields, First, Fit,
-    Frames, Height, Idle, Index, Ntp, Pace, Packets, Pcap, Picture, Port, Prefix, Progress, Pt,
-    Range, Rate, Reporter, Sampling, Scaler, Seconds, Seed, Seq, Sessions, Size, Slices, Ssrc,
+    Aspect, At, Budget, BySender, Check, Cname, Colour, Count, Depth, Every, Fields, Fill, First,
+    Fit, Frames, Height, Idle, Index, Ntp, Pace, Packets, Pcap, Picture, Port, Prefix, Progress,
+    Pt, Range, Rate, Reporter, Sampling, Scaler, Seconds, Seed, Seq, Sessions, Size, Slices, Ssrc,
     Tick, To, Top, Wavelet, Width, Window, Workers, Written,
 };
 use Values::{Address, Number, Optional, Pair, Ratio, Required, Subsampling, Text};
@@ -23,6 +23,7 @@ pub(crate) enum Command {
     Gen,
     Rtcp,
     RtcpShow,
+    Probe,
     Record,
     Replay,
 }
@@ -69,6 +70,7 @@ pub(crate) enum Name {
     First,
     Progress,
     Sessions,
+    Fill,
     Pace,
     To,
     At,
@@ -113,6 +115,7 @@ pub(crate) fn command_of(word: &str) -> Option<Command>
         "gen" => Some(Command::Gen),
         "rtcp" => Some(Command::Rtcp),
         "rtcp-show" => Some(Command::RtcpShow),
+        "probe" => Some(Command::Probe),
         "record" => Some(Command::Record),
         "replay" => Some(Command::Replay),
         _ => None,
@@ -162,6 +165,7 @@ pub(crate) fn option_row(name: Name) -> (&'static str, Values)
         First => ("--first", Number(0, 4294967295, 0)),
         Progress => ("--progress", Number(0, 86400, 0)),
         Sessions => ("--sessions", Number(1, 4294967295, 1)),
+        Fill => ("--fill", Number(0, 1, 0)),
         Pace => ("--pace", Number(0, 1, 1)),
         To => ("--to", Address),
         At => ("--at", Address),
@@ -178,7 +182,7 @@ pub(crate) fn names_of(command: Command) -> &'static [Name]
     ensures { result.now ≡ names_of command }
 {
     match command {
-        Command::Decode => &[Window, Workers, Packets, Pcap, Port, Progress],
+        Command::Decode => &[Window, Workers, Packets, Pcap, Port, Fill, Progress],
         Command::Unpack => &[Window, Workers, Packets, Pcap, Port],
         Command::Encode => &[
             Width, Height, Sampling, Range, Fields, Top, Wavelet, Depth, Slices, Prefix, Scaler,
@@ -191,7 +195,7 @@ pub(crate) fn names_of(command: Command) -> &'static [Name]
             First, Workers, Pace, To, Progress,
         ],
         Command::Recv => &[
-            Window, Workers, Packets, Sessions, Idle, Seconds, Written, At, Progress,
+            Window, Workers, Packets, Sessions, Idle, Seconds, Written, Fill, At, Progress,
         ],
         Command::Loop => &[
             Width, Height, Sampling, Range, Fields, Top, Wavelet, Depth, Slices, Prefix, Scaler,
@@ -205,6 +209,7 @@ pub(crate) fn names_of(command: Command) -> &'static [Name]
         ],
         Command::Rtcp => &[Every, Reporter, Cname, BySender, Ntp, Packets, Pcap, Port],
         Command::RtcpShow => &[Packets, Pcap, Port],
+        Command::Probe => &[Packets, Pcap, Port],
         Command::Record => &[Packets, Sessions, Idle, Seconds, At, Progress],
         Command::Replay => &[Packets, Pace, To, Progress],
     }

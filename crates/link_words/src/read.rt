@@ -32,6 +32,7 @@ fn settings<'a>(command: Command, words: &'a Words) -> Option<Settings<'a>>
             workers,
             packets,
             pcap,
+            fill: is_set(words, Name::Fill),
         },
         Command::Encode => Settings::Encode {
             sender: sender(words)?,
@@ -51,6 +52,7 @@ fn settings<'a>(command: Command, words: &'a Words) -> Option<Settings<'a>>
             packets,
             sessions: given(words, Name::Sessions),
             idle: given(words, Name::Idle),
+            fill: is_set(words, Name::Fill),
             at: value_of(words, Name::At),
         },
         Command::Loop => Settings::Loop {
@@ -91,6 +93,7 @@ fn settings<'a>(command: Command, words: &'a Words) -> Option<Settings<'a>>
             pcap,
         },
         Command::RtcpShow => Settings::RtcpShow { packets, pcap },
+        Command::Probe => Settings::Probe { packets, pcap },
         Command::Record => Settings::Record {
             packets,
             sessions: given(words, Name::Sessions),

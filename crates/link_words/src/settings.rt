@@ -2,7 +2,8 @@ use vc_types::{FrameRate, GenSettings, SendSettings};
 
 /// What the words of a command line say: a command and its options, defaults filled in. An address is a word,
 /// and so is a reporter's name. `pcap` is the port of the datagrams in a pcap file, where the input is one
-/// and no capture; port 0 stands for all.
+/// and no capture; port 0 stands for all. With `fill` the frame before is written once more for each that is
+/// missing.
 #[derive(Clone, Copy)]
 pub enum Settings<'a> {
     Decode {
@@ -10,6 +11,7 @@ pub enum Settings<'a> {
         workers: u32,
         packets: u32,
         pcap: Option<u16>,
+        fill: bool,
     },
     Encode {
         sender: SendSettings,
@@ -29,6 +31,7 @@ pub enum Settings<'a> {
         packets: u32,
         sessions: u32,
         idle: u32,
+        fill: bool,
         at: &'a str,
     },
     Loop {
@@ -71,6 +74,10 @@ pub enum Settings<'a> {
         pcap: Option<u16>,
     },
     RtcpShow {
+        packets: u32,
+        pcap: Option<u16>,
+    },
+    Probe {
         packets: u32,
         pcap: Option<u16>,
     },

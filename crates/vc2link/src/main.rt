@@ -20,7 +20,7 @@ use link_net::{Launcher, Limits, LiveWire, Reader, WireNotes};
 use link_program::{link_main, print_page};
 use link_report::Ending;
 use link_words::{Settings, read_words};
-use notes::{say_missing, say_mistake, say_no_text, say_notes};
+use notes::{say_filled, say_missing, say_mistake, say_no_text, say_notes};
 use plan::Plan;
 use run_counts::{MissingFrames, RunCounts};
 use running::RunningLines;
@@ -185,6 +185,9 @@ fn run<H: Threads + Wait + Net + Clock + Copy + Send + Sync + 'static, S: Source
         None
     };
     say_rest(alloc, words, &ended, missing, report);
+    if plan.says_filled && status != usage_status() {
+        say_filled(alloc, missing, report);
+    }
     status
 }
 

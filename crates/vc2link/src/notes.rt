@@ -85,6 +85,14 @@ pub(crate) fn say_missing<E: Sink>(alloc: Global, missing: &MissingFrames, repor
     let _ = write_all(report, b"\n");
 }
 
+/// Says after the report how many frames were written in the place of missing ones.
+pub(crate) fn say_filled<E: Sink>(alloc: Global, missing: Option<MissingFrames>, report: &mut E) {
+    if let Some(missing) = missing {
+        let filled = missing.filled();
+        say(report, format!(in alloc; "filled {filled}\n"));
+    }
+}
+
 /// Says after a report of words that are outside the grammar what is wrong with them, and where the grammar
 /// stands.
 pub(crate) fn say_mistake<E: Sink>(alloc: Global, words: &Words, report: &mut E) {

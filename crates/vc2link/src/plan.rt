@@ -61,8 +61,10 @@ pub(crate) struct Plan {
     pub(crate) frames: u32,
     /// With how many bytes the input ends, if it is to end before its own end.
     pub(crate) most: Option<u64>,
-    /// Whether it is said which frames weren't written.
+    /// Whether it is said which frames weren't written, and how many others were written in the place of
+    /// some.
     pub(crate) says_missing: bool,
+    pub(crate) says_filled: bool,
 }
 
 impl Plan {
@@ -74,6 +76,7 @@ impl Plan {
             frames: 0,
             most: None,
             says_missing: false,
+            says_filled: false,
         };
         let Ok(settings) = read_words(words) else {
             return plan;
@@ -86,6 +89,10 @@ impl Plan {
             plan.frames = written_of(words);
         }
         plan.says_missing = matches!(settings, Settings::Decode { .. } | Settings::Recv { .. });
+        plan.says_filled = matches!(
+            settings,
+            Settings::Decode { fill: true, .. } | Settings::Recv { fill: true, .. }
+        );
         plan.most = bytes_of_first(words, &settings);
         if let Some(form) = form_of(&settings) {
             if let Some(rhythm) = rhythm_of(words, on_terminal && form.counted.is_of_files()) {

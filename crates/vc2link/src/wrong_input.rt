@@ -90,7 +90,8 @@ fn wanted_by(words: &Words) -> Option<Wanted> {
             Settings::Decode { pcap, .. }
             | Settings::Unpack { pcap, .. }
             | Settings::Rtcp { pcap, .. }
-            | Settings::RtcpShow { pcap, .. },
+            | Settings::RtcpShow { pcap, .. }
+            | Settings::Probe { pcap, .. },
         ) => Some(match pcap {
             Some(port) => Wanted::Pcap(port),
             None => Wanted::Capture,

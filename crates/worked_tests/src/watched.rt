@@ -99,6 +99,23 @@ fn a_picture_that_makes_no_frame_is_missing(rt: HostRuntime) -> Result<(), Fail>
 }
 
 #[test]
+fn frames_are_filled_where_few_are_missing(rt: HostRuntime) -> Result<(), Fail> {
+    let mut missing = MissingFrames::new();
+    for picture in [7, 8, 10, 14] {
+        missing.write(picture, false);
+    }
+    assert_eq!(rt; missing.filled(), 4);
+    missing.write(265, false);
+    assert_eq!(rt; missing.filled(), 254);
+    missing.write(517, false);
+    assert_eq!(rt; missing.filled(), 254);
+    missing.open_session();
+    missing.write(520, false);
+    assert_eq!(rt; missing.filled(), 254);
+    Ok(())
+}
+
+#[test]
 fn a_hundred_ranges_are_kept(rt: HostRuntime) -> Result<(), Fail> {
     let mut missing = MissingFrames::new();
     for number in 0..101u64 {
