@@ -72,7 +72,7 @@ WORDS = [
     (SIDES + " --tick 3600 --colour 3", 9, "--colour: only with --rate"),
 ]
 
-COMMANDS = "encode decode send recv loop record replay play unpack pack gen rtcp rtcp-show".split()
+COMMANDS = "encode decode send recv loop record replay play unpack pack gen rtcp rtcp-show probe".split()
 
 # ---- inputs of another form
 

@@ -26,6 +26,9 @@ FIELDS = (
     + picture(6, "000100000000000000") + picture(7, "0000000000000000") + picture(8, "0000000000000000")
 )
 
+# Between two pictures, of which the first has a coefficient of -15 in luma, one that never came.
+GAP = HEADER + picture(5, "000100000000000000") + picture(7, "0000000000000000")
+
 # The same picture as data units, and an end of sequence.
 UNITS = "42424344 00 00000012 00000000 70F063C080 42424344 E8 0000001C 00000012 00000000 096640 0000000000000000"
 END = "42424344 10 00000000 0000001C"
@@ -62,6 +65,7 @@ SMALL = "encode " + CODING
 
 GREY = bytes([0x80]) * 96
 WOVEN = bytes(0x71 if place in (8, 9, 24, 25) else 0x80 for place in range(96))
+DARK = bytes(0x71 if place in (0, 1, 8, 9) else 0x80 for place in range(96))
 PLAYED = "pictures 1\nunpaired 0\nframes 1\n"
 
 
@@ -76,6 +80,8 @@ SENT_FRAME = tally(datagrams=4, header_new=1, end=1, params_kept=1, slices_kept=
 
 TWO_FIELDS = tally(datagrams=7, header_new=1, params_kept=3, slices_kept=3, unpaired=1, frames=1)
 
+TWO_PICTURES = tally(datagrams=5, header_new=1, params_kept=2, slices_kept=2, frames=2)
+
 ROWS = [
     # words, input, status, output, report
     ("decode", CAPTURE, 0, GREY, ONE_PICTURE),
@@ -83,6 +89,10 @@ ROWS = [
     ("decode", "", 0, b"", tally()),
     ("decode", CAPTURE + "00", 8, GREY, ONE_PICTURE + "capture cut at 98\n"),
     ("decode", FIELDS, 0, WOVEN, TWO_FIELDS),
+    ("decode", GAP, 0, DARK + GREY, TWO_PICTURES),
+    ("decode --fill 1", GAP, 0, DARK + DARK + GREY, TWO_PICTURES + "missing 6\nfilled 1\n"),
+    ("decode --fill 1", CAPTURE, 0, GREY, ONE_PICTURE + "filled 0\n"),
+    ("decode --fill 2", "", 2, b"", "usage at 2\n--fill 2: 0 to 1\nsee vc2link decode --help\n"),
     ("play", UNITS + END, 0, GREY, PLAYED),
     ("play", UNITS, 0, GREY, PLAYED),
     ("play", "", 0, b"", "pictures 0\nunpaired 0\nframes 0\n"),
